@@ -1,0 +1,42 @@
+-- What a whole call does: from words and bytes to printed text and a status. This project's own.
+use Rattle.std.specs.Prelude.{◌≡◌, ℕ, List, [], ◌∷◌, map, Option, Some, String, string_bytes, codes}
+use Rattle.lg_outside.specs.Outside.{AppendsPart}
+use Rattle.lg_grammar.specs.Tree.{LineTree}
+use Rattle.lg_grammar.specs.Script.{Spells}
+use Rattle.lg_meaning.specs.Run.{End, done, fault_at, run}
+use Rattle.legate.specs.Running.{Ends, PrintsFirst}
+use Rattle.legate.specs.declared.exit.Exit.{Exit}
+use Rattle.legate.specs.declared.exit.TheConstants.{DONE, FAULT}
+
+-- the words are the one word `run`
+abbrev pub IsRunCommand : {A : Type 0} → List (String A) → Type 0
+IsRunCommand words = map string_bytes words ≡ codes "run" ∷ []
+
+-- the bytes spell no script
+abbrev pub SpellsNone : List ℕ → Type 0
+SpellsNone bytes = (script : List LineTree) → Spells bytes script → ⊥
+
+-- the bytes spell a script that ends so; none of them is left, and its whole text was appended
+pub record Finishes (bytes : List ℕ) (end : End) (left old new : Option (List ℕ)) : Type 0 where
+  pub script : List LineTree
+  pub spelled : Spells bytes script
+  pub all_read : left ≡ Some []
+  pub ends : Ends script end old new
+
+-- the bytes spell a script; none of them is left, and of its text only a part was appended
+pub record StopsWithin (bytes : List ℕ) (left old new : Option (List ℕ)) : Type 0 where
+  pub script : List LineTree
+  pub spelled : Spells bytes script
+  pub all_read : left ≡ Some []
+  pub printed : AppendsPart old new (run script).text
+
+-- the bytes spell a script, and what its first statements print was appended
+pub record StopsBetween (bytes : List ℕ) (old new : Option (List ℕ)) : Type 0 where
+  pub script : List LineTree
+  pub spelled : Spells bytes script
+  pub printed : PrintsFirst script old new
+
+-- the status says how the script ends
+abbrev pub EndsAs : Exit → End → Type 0
+EndsAs exit done = exit.status ≡ DONE
+EndsAs exit (fault_at line kind) = (exit.status ≡ FAULT) × (exit.line ≡ line) × (exit.kind ≡ Some kind)

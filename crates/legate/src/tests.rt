@@ -1,0 +1,157 @@
+//! Whole calls over streams in memory, with what each must answer, print and log.
+use crate::exit::{DONE, READ_FAULT, SYNTAX, TOO_LONG, USAGE, WRITE_FAULT};
+use crate::legate;
+use lg_outside::{MemorySink, MemorySource};
+use std::alloc::Global;
+use std::process::Abort;
+use std::test::Fail;
+
+// What a call is given and must answer. The source gives at most `piece` bytes in a call; `reads` and `writes` are the
+// numbers of the calls that fail.
+#[derive(Clone, Copy)]
+struct Row {
+    words: &'static [&'static str],
+    script: &'static [u8],
+    piece: usize,
+    reads: &'static [u64],
+    room: usize,
+    writes: &'static [u64],
+    status: u8,
+    line: u64,
+    out: &'static [u8],
+    log: &'static [u8],
+}
+
+// A row of `run` with streams that don't fail.
+fn plain(
+    script: &'static [u8],
+    status: u8,
+    line: u64,
+    out: &'static [u8],
+    log: &'static [u8],
+) -> Row {
+    Row {
+        words: &["run"],
+        script,
+        piece: 4096,
+        reads: &[],
+        room: 4096,
+        writes: &[],
+        status,
+        line,
+        out,
+        log,
+    }
+}
+
+fn try_row(rt: &impl Abort, alloc: Global, row: &Row) -> Result<(), Fail> {
+    let mut words = Vec::new(alloc);
+    for word in row.words {
+        words.push(String::from_str(alloc, word)?)?;
+    }
+    assert!(rt; row.piece > 0);
+    let script = row.script.to_vec(alloc)?;
+    let mut source = MemorySource::new(script, row.piece, row.reads.to_vec(alloc)?);
+    let mut out = MemorySink::new(alloc, row.room, row.writes.to_vec(alloc)?)?;
+    let mut log = MemorySink::new(alloc, 4096, Vec::new(alloc))?;
+    let exit = legate(alloc, &words, &mut source, &mut out, &mut log);
+    assert_eq!(rt; exit.status, row.status);
+    assert_eq!(rt; exit.line, row.line);
+    assert_eq!(rt; out.bytes(), row.out);
+    assert_eq!(rt; log.bytes(), row.log);
+    Ok(())
+}
+
+#[test]
+fn scripts_end_as_they_must(rt: HostRuntime) -> Result<(), Fail> {
+    let rows = [
+        plain(b"", DONE, 0, b"", b""),
+        plain(b"print(full(3, 7))", DONE, 0, b"[7, 7, 7]\n", b""),
+        plain(
+            b"print(full(0, 7))\n\n \t\nprint( full(1 ,\t0) )\n",
+            DONE,
+            0,
+            b"[]\n[0]\n",
+            b"",
+        ),
+        plain(
+            b"print(full(1, 1))\nprint(full(1, 01))\n",
+            SYNTAX,
+            2,
+            b"",
+            b"line 2: syntax\n",
+        ),
+        plain(b" print(full(1, 1))", SYNTAX, 1, b"", b"line 1: syntax\n"),
+    ];
+    for row in &rows {
+        try_row(&rt, rt.alloc(), row)?;
+    }
+    Ok(())
+}
+
+#[test]
+fn streams_and_words_fail(rt: HostRuntime) -> Result<(), Fail> {
+    let script = b"print(full(2, 14))\nprint(full(1, 5))\n";
+    let base = plain(script, DONE, 0, b"[14, 14]\n[5]\n", b"");
+    let rows = [
+        Row {
+            piece: 4,
+            reads: &[2],
+            status: READ_FAULT,
+            out: b"",
+            log: b"read fault\n",
+            ..base
+        },
+        Row {
+            room: 3,
+            status: WRITE_FAULT,
+            out: b"[14",
+            log: b"write fault\n",
+            ..base
+        },
+        Row {
+            writes: &[2],
+            status: WRITE_FAULT,
+            out: b"[14, 14]\n",
+            log: b"write fault\n",
+            ..base
+        },
+        Row {
+            words: &[],
+            status: USAGE,
+            out: b"",
+            log: b"usage: legate run, check or demo\n",
+            ..base
+        },
+        Row {
+            words: &["run", "run"],
+            status: USAGE,
+            out: b"",
+            log: b"usage: legate run, check or demo\n",
+            ..base
+        },
+    ];
+    for row in &rows {
+        try_row(&rt, rt.alloc(), row)?;
+    }
+    Ok(())
+}
+
+#[test]
+fn a_script_of_the_greatest_length_is_read(rt: HostRuntime) -> Result<(), Fail> {
+    let alloc = rt.alloc();
+    for (length, status, message) in [
+        (1_048_576usize, DONE, b"".as_slice()),
+        (1_048_577, TOO_LONG, b"script too long\n".as_slice()),
+    ] {
+        let words = vec![in alloc; String::from_str(alloc, "run")?]?;
+        let script = vec![in alloc; b' '; length]?;
+        let mut source = MemorySource::new(script, 4096, Vec::new(alloc));
+        let mut out = MemorySink::new(alloc, 16, Vec::new(alloc))?;
+        let mut log = MemorySink::new(alloc, 64, Vec::new(alloc))?;
+        let exit = legate(alloc, &words, &mut source, &mut out, &mut log);
+        assert_eq!(rt; exit.status, status);
+        assert_eq!(rt; log.bytes(), message);
+    }
+    Ok(())
+}

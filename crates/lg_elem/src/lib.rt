@@ -1,0 +1,12 @@
+//! The element types of arrays, and the operations on single elements.
+#![tactic(auto)]
+
+mod dtype;
+mod elem;
+mod kinds;
+mod operations;
+
+pub use dtype::DType;
+pub use elem::Elem;
+pub use kinds::{Binary, Flag};
+pub use operations::binary;

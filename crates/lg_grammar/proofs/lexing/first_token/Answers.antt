@@ -1,0 +1,26 @@
+use Rattle.std.proofs.Common.{◌<◌, Option, None, Some, IfNone, arith, sym, ◌∙◌}
+use Rattle.lg_grammar.proofs.TokenLemmas.{no_sign, no_number, first_word, first_number}
+use Rattle.lg_grammar.proofs.lexing.first_token.Goals as goal
+
+if_none : {X : Type 0} (o : Option X) (P : Type 0) → P → IfNone o P
+if_none None P p = p
+if_none (Some x) P p = tt
+
+pub returns-in_err-sign_of-clause-none : goal.returns-in_err-sign_of-clause-none
+returns-in_err-sign_of-clause-none c =
+    if_none _ _ (no_sign c.args.rest.now c.requires (sym c.run_length-run.ensures.run ∙ c.if-run-eq0.true) (sym c.sign_of.ensures ∙ c.in_err-sign_of.was))
+
+pub returns-then-is_letter-clause-found : goal.returns-then-is_letter-clause-found
+returns-then-is_letter-clause-found c =
+    let some : 0 < c.run_length-run.result = omega arith in
+    first_word c.args.rest.now c.run_length-run.result c.run_length-run.ensures.run some c.run_length-run.ensures.within (sym c.is_letter.ensures ∙ c.if-is_letter.true)
+
+pub returns-in_err-number_of-clause-none : goal.returns-in_err-number_of-clause-none
+returns-in_err-number_of-clause-none c =
+    let some : 0 < c.run_length-run.result = omega arith in
+    if_none _ _ (no_number c.args.rest.now c.run_length-run.result c.run_length-run.ensures.run some (sym c.is_letter.ensures ∙ c.if-is_letter.false) c.in_err-number_of.ensures.none)
+
+pub returns-clause-found : goal.returns-clause-found
+returns-clause-found c =
+    let some : 0 < c.run_length-run.result = omega arith in
+    first_number c.args.rest.now c.run_length-run.result c.in_ok-number_of.field-0 c.run_length-run.ensures.run some c.run_length-run.ensures.within c.in_ok-number_of.ensures.found c.in_ok-number_of.ensures.small

@@ -1,0 +1,28 @@
+use Rattle.std.proofs.Common.{◌≡◌, ◌++◌, ◌∷◌, [], not, sym, ap, ◌∙◌, arith}
+use Rattle.std.proofs.lemmas.Bool.{cond-true}
+use Rattle.lg_grammar.proofs.LexLemmas.{lexed_blank, lexed_never, lexed_end, lexed_push, inside_push}
+use Rattle.lg_grammar.proofs.lexing.lex_line.Goals as goal
+
+pub loop-place-preserved-then-is_blank : goal.loop-place-preserved-then-is_blank
+loop-place-preserved-then-is_blank c = record {
+  within = omega arith;
+  inside = c.loop-place.invariant.inside;
+  lexed = lexed_blank c.args.line.now c.loop-place.place _ c.loop-place-test.true (sym c.is_blank.ensures ∙ c.if-is_blank.true) c.loop-place.invariant.lexed;
+}
+
+pub returns-in_default-clause-fault : goal.returns-in_default-clause-fault
+returns-in_default-clause-fault c =
+    lexed_never c.args.line.now c.loop-place.place _ c.loop-place-test.true (sym c.is_blank.ensures ∙ c.if-is_blank.false) c.in_default.ensures.none c.loop-place.invariant.lexed
+
+pub loop-place-preserved : goal.loop-place-preserved
+loop-place-preserved c =
+    let pushed : c.push.new.self.items ≡ c.loop-place.tokens.items ++ c.in-Some.token ∷ [] = c.push.ensures.items ∙ cond-true _ _ _ (c.is_err.ensures.negation ∙ ap not c.if-is_err.false) in
+    let next = c.in-Some.ensures.found in
+    record {
+      within = next.within;
+      inside = inside_push c.args.line.now c.loop-place.place c.loop-place.tokens.items c.push.new.self.items c.in-Some.token next pushed c.loop-place.invariant.inside;
+      lexed = lexed_push c.args.line.now c.loop-place.place c.loop-place.tokens.items c.push.new.self.items c.in-Some.token c.loop-place-test.true (sym c.is_blank.ensures ∙ c.if-is_blank.false) next pushed c.loop-place.invariant.lexed;
+    }
+
+pub returns-clause-tokens : goal.returns-clause-tokens
+returns-clause-tokens c = lexed_end c.args.line.now c.loop-place.place _ c.loop-place-test.false c.loop-place.invariant.lexed

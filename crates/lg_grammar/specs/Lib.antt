@@ -1,0 +1,9 @@
+pub mod Token
+pub mod Tree
+pub mod Grammar
+pub mod Script
+pub mod Reading
+pub mod Signs
+pub mod View
+pub mod Lines
+pub mod Ends

@@ -1,0 +1,80 @@
+//! What stands at a place of a line's tokens.
+
+ghost use Rattle.std.specs.Prelude.{◌≡◌, ◌+◌, ◌<◌, ◌≤◌, ℕ, List, [], ◌∷◌, length, All, IfSome, IfNone};
+ghost use Rattle.lg_grammar.specs.Token.{word, number};
+ghost use Rattle.lg_grammar.specs.Reading.{token_from, token_of, left, IsInside, IsSign, Tokens};
+
+use crate::tokens::{Token, TokenKind};
+use sqlite_items::at;
+
+/// The token at a place.
+fn token_at(tokens: &[Token], place: usize) -> Option<Token>
+    ensures found { IfSome result (λ t. (line : List ℕ)
+        → left line tokens.now place ≡ token_of line t ∷ left line tokens.now (place + 1)) }
+    ensures inside { IfSome result (λ t. (line : List ℕ) → All (IsInside line) tokens.now → IsInside line t) }
+    ensures within { IfSome result (λ t. place < length tokens.now) }
+    ensures none { IfNone result ((line : List ℕ) → left line tokens.now place ≡ []) }
+{
+    at(tokens, place).copied()
+}
+
+/// The text of the word at a place.
+pub fn word_at<'a>(line: &'a [u8], tokens: &[Token], place: usize) -> Option<&'a [u8]>
+    requires { All (IsInside line.now) tokens.now }
+    ensures found { IfSome result (λ w.
+        left line.now tokens.now place ≡ word w.now ∷ left line.now tokens.now (place + 1)) }
+    ensures within { IfSome result (λ w. place < length tokens.now) }
+    ensures none { IfNone result ((w : List ℕ) (rest : Tokens)
+        → left line.now tokens.now place ≡ word w ∷ rest → ⊥) }
+{
+    let token = token_at(tokens, place)?;
+    match token.kind {
+        TokenKind::Word => Some(&line[token.start as usize..token.end as usize]),
+        _ => None,
+    }
+}
+
+/// The place after this word, where it stands at the place.
+pub fn after_word(line: &[u8], tokens: &[Token], place: usize, text: &[u8]) -> Option<usize>
+    requires { All (IsInside line.now) tokens.now }
+    ensures found { IfSome result (λ next.
+        left line.now tokens.now place ≡ word text.now ∷ left line.now tokens.now next) }
+    ensures within { IfSome result (λ next. next ≤ length tokens.now) }
+    ensures none { IfNone result ((rest : Tokens)
+        → left line.now tokens.now place ≡ word text.now ∷ rest → ⊥) }
+{
+    let word = word_at(line, tokens, place)?;
+    if word == text { Some(place + 1) } else { None }
+}
+
+/// The place after this sign, where it stands at the place.
+pub fn after_sign(tokens: &[Token], place: usize, sign: TokenKind) -> Option<usize>
+    requires { IsSign sign }
+    ensures found { IfSome result (λ next. (line : List ℕ)
+        → left line tokens.now place ≡ token_from sign [] ∷ left line tokens.now next) }
+    ensures within { IfSome result (λ next. next ≤ length tokens.now) }
+    ensures none { IfNone result ((line : List ℕ) (rest : Tokens)
+        → left line tokens.now place ≡ token_from sign [] ∷ rest → ⊥) }
+{
+    let token = token_at(tokens, place)?;
+    if token.kind == sign {
+        Some(place + 1)
+    } else {
+        None
+    }
+}
+
+/// The number at a place.
+pub fn number_at(tokens: &[Token], place: usize) -> Option<u32>
+    ensures found { IfSome result (λ n. (line : List ℕ)
+        → left line tokens.now place ≡ number n ∷ left line tokens.now (place + 1)) }
+    ensures within { IfSome result (λ n. place < length tokens.now) }
+    ensures none { IfNone result ((line : List ℕ) (n : ℕ) (rest : Tokens)
+        → left line tokens.now place ≡ number n ∷ rest → ⊥) }
+{
+    let token = token_at(tokens, place)?;
+    match token.kind {
+        TokenKind::Number(value) => Some(value),
+        _ => None,
+    }
+}

@@ -1,0 +1,85 @@
+use super::*;
+use std::alloc::Global;
+use std::process::Abort;
+use std::test::Fail;
+
+/// Reads a script, and compares the numbers of its lines.
+fn expect_lines(rt: &impl Abort, alloc: Global, text: &[u8], numbers: &[u64]) -> Result<(), Fail> {
+    assert!(rt; text.len() < 100);
+    let script = read_script(alloc, text)?;
+    let lines = script.lines.as_slice();
+    assert_eq!(rt; lines.len(), numbers.len());
+    for (line, number) in lines.iter().zip(numbers) {
+        assert_eq!(rt; line.number, *number);
+    }
+    Ok(())
+}
+
+/// Reads a bad script, and compares the number of the bad line.
+fn expect_bad(rt: &impl Abort, alloc: Global, text: &[u8], number: u64) {
+    assert!(rt; text.len() < 100);
+    assert!(rt;
+        matches!(read_script(alloc, text), Err(ScriptEnd::Syntax { line }) if line == number)
+    );
+}
+
+#[test]
+fn good_scripts(rt: HostRuntime) -> Result<(), Fail> {
+    let alloc = rt.alloc();
+    expect_lines(&rt, alloc, b"", &[])?;
+    expect_lines(&rt, alloc, b"\t \n\n", &[])?;
+    expect_lines(&rt, alloc, b"print(full(3, 7))", &[1])?;
+    expect_lines(
+        &rt,
+        alloc,
+        b"\nprint(full(0, 16777216))\n\t\nprint\t( full(1,2) ) \n",
+        &[2, 4],
+    )
+}
+
+#[test]
+fn bad_scripts(rt: HostRuntime) {
+    let alloc = rt.alloc();
+    expect_bad(&rt, alloc, b" print(full(3, 7))", 1);
+    expect_bad(&rt, alloc, b"\n\tprint(full(3, 7))", 2);
+    expect_bad(&rt, alloc, b"print(full(3, 7))\nprint(full(03, 7))", 2);
+    expect_bad(&rt, alloc, b"print(full(3, 16777217))", 1);
+    expect_bad(&rt, alloc, b"print(full(3,7)x)", 1);
+    expect_bad(&rt, alloc, b"print(full(3, 7)) # c", 1);
+    expect_bad(&rt, alloc, b"print(full(3, 7))\r\n", 1);
+    expect_bad(&rt, alloc, b"print(full(3, 7) + full(3, 7))", 1);
+    expect_bad(&rt, alloc, b"print(full(3, 7)))", 1);
+    expect_bad(&rt, alloc, b"printfull(3, 7)", 1);
+}
+
+#[test]
+fn many_statements(rt: HostRuntime) -> Result<(), Fail> {
+    let alloc = rt.alloc();
+    let mut text = Vec::new(alloc);
+    for _ in 0..1_000 {
+        text.extend_from_slice(b"print(full(1, 2))\n")?;
+    }
+    assert!(rt; text.len() < 20_000);
+    assert_eq!(rt; read_script(alloc, &text)?.lines.len(), 1_000);
+    text.extend_from_slice(b"\nprint(full(1, 2))")?;
+    assert!(rt; text.len() < 20_000);
+    assert!(rt;
+        matches!(
+            read_script(alloc, &text),
+            Err(ScriptEnd::Syntax { line: 1_002 })
+        )
+    );
+    Ok(())
+}
+
+#[test]
+fn texts(rt: HostRuntime) -> Result<(), Fail> {
+    let alloc = rt.alloc();
+    let bad = ScriptEnd::Syntax { line: 7 };
+    assert_eq!(rt; format!(in alloc; "{bad}")?.as_str(), "line 7: syntax");
+    assert_eq!(rt;
+        format!(in alloc; "{}", ScriptEnd::NoMemory)?.as_str(),
+        "no memory"
+    );
+    Ok(())
+}

@@ -1,0 +1,10 @@
+pub mod Shape
+pub mod Memory
+pub mod Value
+pub mod Text
+pub mod Step
+pub mod Run
+pub use Rattle.lg_grammar.specs.Tree
+pub use Rattle.lg_grammar.specs.Script
+pub use Rattle.lg_elem.specs.Types
+pub use Rattle.lg_elem.specs.Operations
