@@ -1,3 +1,6 @@
+pub mod Names
+pub mod Adding
 pub mod Evaluation
+pub mod Statement
 pub mod Running
 pub mod Top

@@ -16,10 +16,11 @@ IsRunCommand words = map string_bytes words ≡ codes "run" ∷ []
 abbrev pub SpellsNone : List ℕ → Type 0
 SpellsNone bytes = (script : List LineTree) → Spells bytes script → ⊥
 
--- the bytes spell a script that ends so; none of them is left, and its whole text was appended
+-- the bytes spell this script and no other; it ends so, no byte is left, and its whole text was appended
 pub record Finishes (bytes : List ℕ) (end : End) (left old new : Option (List ℕ)) : Type 0 where
   pub script : List LineTree
   pub spelled : Spells bytes script
+  pub only : (other : List LineTree) → Spells bytes other → other ≡ script
   pub all_read : left ≡ Some []
   pub ends : Ends script end old new
 

@@ -1,8 +1,9 @@
 //! Whole calls over streams in memory, with what each must answer, print and log.
-use crate::exit::{DONE, READ_FAULT, SYNTAX, TOO_LONG, USAGE, WRITE_FAULT};
+use crate::exit::{DONE, FAULT, READ_FAULT, SYNTAX, TOO_LONG, USAGE, WRITE_FAULT};
 use crate::legate;
+use lg_meaning::FaultKind;
 use lg_outside::{MemorySink, MemorySource};
-use std::alloc::Global;
+use std::alloc::{AllocError, Global};
 use std::process::Abort;
 use std::test::Fail;
 
@@ -18,6 +19,7 @@ struct Row {
     writes: &'static [u64],
     status: u8,
     line: u64,
+    kind: Option<FaultKind>,
     out: &'static [u8],
     log: &'static [u8],
 }
@@ -39,8 +41,23 @@ fn plain(
         writes: &[],
         status,
         line,
+        kind: None,
         out,
         log,
+    }
+}
+
+// A row of `run` that ends with a fault.
+fn faulty(
+    script: &'static [u8],
+    line: u64,
+    kind: FaultKind,
+    out: &'static [u8],
+    log: &'static [u8],
+) -> Row {
+    Row {
+        kind: Some(kind),
+        ..plain(script, FAULT, line, out, log)
     }
 }
 
@@ -57,16 +74,23 @@ fn try_row(rt: &impl Abort, alloc: Global, row: &Row) -> Result<(), Fail> {
     let exit = legate(alloc, &words, &mut source, &mut out, &mut log);
     assert_eq!(rt; exit.status, row.status);
     assert_eq!(rt; exit.line, row.line);
+    assert_eq!(rt; exit.kind, row.kind);
     assert_eq!(rt; out.bytes(), row.out);
     assert_eq!(rt; log.bytes(), row.log);
     Ok(())
 }
 
 #[test]
-fn scripts_end_as_they_must(rt: HostRuntime) -> Result<(), Fail> {
+fn scripts_print(rt: HostRuntime) -> Result<(), Fail> {
     let rows = [
         plain(b"", DONE, 0, b"", b""),
-        plain(b"print(full(3, 7))", DONE, 0, b"[7, 7, 7]\n", b""),
+        plain(
+            b"a = full(3, 7)\nprint(a + a)",
+            DONE,
+            0,
+            b"[14, 14, 14]\n",
+            b"",
+        ),
         plain(
             b"print(full(0, 7))\n\n \t\nprint( full(1 ,\t0) )\n",
             DONE,
@@ -75,13 +99,19 @@ fn scripts_end_as_they_must(rt: HostRuntime) -> Result<(), Fail> {
             b"",
         ),
         plain(
-            b"print(full(1, 1))\nprint(full(1, 01))\n",
-            SYNTAX,
-            2,
+            b"print(full(1, 5) + full(3, 1))\nprint(full(2, 1) + full(1, 4) + full(2, 2))\nprint(full(0, 1) + full(1, 1))",
+            DONE,
+            0,
+            b"[6, 6, 6]\n[7, 7]\n[]\n",
             b"",
-            b"line 2: syntax\n",
         ),
-        plain(b" print(full(1, 1))", SYNTAX, 1, b"", b"line 1: syntax\n"),
+        plain(
+            b"a = full(2, 1)\nb = a\na = full(1, 9)\nprint(b)\nprint(a + b)\nb = b + b\nprint(b)",
+            DONE,
+            0,
+            b"[1, 1]\n[10, 10]\n[2, 2]\n",
+            b"",
+        ),
     ];
     for row in &rows {
         try_row(&rt, rt.alloc(), row)?;
@@ -90,9 +120,78 @@ fn scripts_end_as_they_must(rt: HostRuntime) -> Result<(), Fail> {
 }
 
 #[test]
+fn scripts_have_faults(rt: HostRuntime) -> Result<(), Fail> {
+    let rows = [
+        plain(b"print(a + 1)", SYNTAX, 1, b"", b"line 1: syntax\n"),
+        plain(
+            b"print(full(1, 1))\nprint(full(1, 01))\n",
+            SYNTAX,
+            2,
+            b"",
+            b"line 2: syntax\n",
+        ),
+        faulty(b"print(b)", 1, FaultKind::Name, b"", b"line 1: name\n"),
+        faulty(
+            b"a = full(2, 1) + full(3, 1)",
+            1,
+            FaultKind::Shape,
+            b"",
+            b"line 1: shape\n",
+        ),
+        faulty(
+            b"print(full(1, 1))\n\nprint(full(2, 1) + full(3, 1) + c)\nprint(full(1, 2))",
+            3,
+            FaultKind::Shape,
+            b"[1]\n",
+            b"line 3: shape\n",
+        ),
+        faulty(
+            b"a = a\nprint(full(1, 2))",
+            1,
+            FaultKind::Name,
+            b"",
+            b"line 1: name\n",
+        ),
+    ];
+    for row in &rows {
+        try_row(&rt, rt.alloc(), row)?;
+    }
+    Ok(())
+}
+
+// The script that doubles 1 so often and prints it.
+fn doublings(alloc: Global, count: u32) -> Result<Vec<u8>, AllocError> {
+    let mut script = Vec::from_slice(alloc, b"a = full(1, 1)\n")?;
+    for _ in 0..count {
+        script.extend_from_slice(b"a = a + a\n")?;
+    }
+    script.extend_from_slice(b"print(a)\n")?;
+    Ok(script)
+}
+
+#[test]
+fn sums_wrap_at_64_bits(rt: HostRuntime) -> Result<(), Fail> {
+    let alloc = rt.alloc();
+    for (count, text) in [
+        (62, b"[4611686018427387904]\n".as_slice()),
+        (63, b"[-9223372036854775808]\n"),
+        (64, b"[0]\n"),
+    ] {
+        let words = vec![in alloc; String::from_str(alloc, "run")?]?;
+        let mut source = MemorySource::new(doublings(alloc, count)?, 4096, Vec::new(alloc));
+        let mut out = MemorySink::new(alloc, 64, Vec::new(alloc))?;
+        let mut log = MemorySink::new(alloc, 64, Vec::new(alloc))?;
+        let exit = legate(alloc, &words, &mut source, &mut out, &mut log);
+        assert_eq!(rt; exit.status, DONE);
+        assert_eq!(rt; out.bytes(), text);
+    }
+    Ok(())
+}
+
+#[test]
 fn streams_and_words_fail(rt: HostRuntime) -> Result<(), Fail> {
-    let script = b"print(full(2, 14))\nprint(full(1, 5))\n";
-    let base = plain(script, DONE, 0, b"[14, 14]\n[5]\n", b"");
+    let script = b"a = full(3, 7)\nprint(a + a)\nprint(full(1, 5))";
+    let base = plain(script, DONE, 0, b"[14, 14, 14]\n[5]\n", b"");
     let rows = [
         Row {
             piece: 4,
@@ -112,7 +211,7 @@ fn streams_and_words_fail(rt: HostRuntime) -> Result<(), Fail> {
         Row {
             writes: &[2],
             status: WRITE_FAULT,
-            out: b"[14, 14]\n",
+            out: b"[14, 14, 14]\n",
             log: b"write fault\n",
             ..base
         },

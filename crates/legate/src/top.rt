@@ -1,14 +1,16 @@
-ghost use Rattle.std.specs.Prelude.{◌≡◌, ◌≢◌, ◌≤◌, ◌<◌, ◌↔◌, ◌⊎◌, List, [], ◌∷◌, length, Some, None, IfSome, IsTrue, Contains};
+ghost use Rattle.std.specs.Prelude.{◌≡◌, ◌≢◌, ◌≤◌, ◌<◌, ◌↔◌, ◌⊎◌, List, [], ◌∷◌, length, Some, None, IfSome, IsSome, IsTrue, Contains};
 ghost use Rattle.lg_outside.specs.Outside.{Rose, taken_count};
 ghost use Rattle.lg_grammar.specs.Tree.{LineTree};
 ghost use Rattle.lg_grammar.specs.Script.{Spells, IsFirstBad};
-ghost use Rattle.lg_meaning.specs.Run.{done, run};
+ghost use Rattle.lg_meaning.specs.Run.{done, fault_at, run};
+ghost use Rattle.lg_meaning.specs.declared.fault.FaultKind.{FaultKind};
 ghost use Rattle.legate.specs.Top.{IsRunCommand, SpellsNone, Finishes, StopsWithin, StopsBetween, EndsAs};
 
-use crate::exit::{DONE, Exit, NO_MEMORY, READ_FAULT, SYNTAX, TOO_LONG, USAGE, WRITE_FAULT};
+use crate::exit::{DONE, Exit, FAULT, NO_MEMORY, READ_FAULT, SYNTAX, TOO_LONG, USAGE, WRITE_FAULT};
 use crate::loading::{LoadStop, MAX_SCRIPT_BYTES, load};
 use crate::messages::{Message, write_message};
 use crate::running::{RunStop, run_script};
+use lg_meaning::FaultKind;
 use lg_outside::{Sink, Source};
 use std::alloc::Global;
 
@@ -22,11 +24,15 @@ pub fn legate<S: Source, K: Sink, L: Sink>(
     out: &mut K,
     log: &mut L,
 ) -> Exit
-    ensures statuses { Contains (DONE ∷ USAGE ∷ SYNTAX ∷ TOO_LONG ∷ READ_FAULT ∷ WRITE_FAULT ∷ NO_MEMORY ∷ []) result.status }
+    ensures statuses { Contains (DONE ∷ USAGE ∷ SYNTAX ∷ FAULT ∷ TOO_LONG ∷ READ_FAULT ∷ WRITE_FAULT ∷ NO_MEMORY ∷ []) result.status }
 
     // Done: the whole script was read and run, and all that it prints was written.
     ensures done { result.status ≡ DONE → IfSome (S.left source.old) (λ bytes.
         Finishes bytes done (S.left source.new) (K.written out.old) (K.written out.new)) }
+
+    // Fault: the whole script was read, it ends with this fault at this line, and all that it prints before was written.
+    ensures fault { result.status ≡ FAULT → IfSome (S.left source.old) (λ bytes. (kind : FaultKind) × ((result.kind ≡ Some kind)
+        × Finishes bytes (fault_at result.line kind) (S.left source.new) (K.written out.old) (K.written out.new))) }
 
     // Usage, and only it, comes where the words are no command. Nothing is read then.
     ensures usage { (result.status ≡ USAGE) ↔ (¬ IsRunCommand words.now) }
@@ -52,8 +58,8 @@ pub fn legate<S: Source, K: Sink, L: Sink>(
     ensures quiet { Contains (USAGE ∷ SYNTAX ∷ TOO_LONG ∷ READ_FAULT ∷ []) result.status → out.new ≡ out.old }
 
     // The line and the kind are given with the statuses that name them alone.
-    ensures line { result.status ≢ SYNTAX → result.line ≡ 0 }
-    ensures kind { result.kind ≡ None }
+    ensures line { result.status ≢ SYNTAX → result.status ≢ FAULT → result.line ≡ 0 }
+    ensures kind { IsSome result.kind ↔ (result.status ≡ FAULT) }
 
     // The counts never fall.
     ensures source_later { S.faults source.old ≤ S.faults source.new }
@@ -83,6 +89,14 @@ pub fn legate<S: Source, K: Sink, L: Sink>(
             line: 0,
             kind: None,
         },
+        Err(RunStop::Fault { line, kind }) => {
+            write_message(log, Message::AtLine(line, kind_text(kind)));
+            Exit {
+                status: FAULT,
+                line,
+                kind: Some(kind),
+            }
+        }
         Err(RunStop::WriteFault) => stop(log, WRITE_FAULT, b"write fault"),
         Err(RunStop::NoMemory) => stop(log, NO_MEMORY, b"no memory"),
     }
@@ -98,6 +112,22 @@ fn stop<L: Sink>(log: &mut L, status: u8, message: &[u8]) -> Exit
         status,
         line: 0,
         kind: None,
+    }
+}
+
+// What a message says of a kind of fault.
+fn kind_text(kind: FaultKind) -> &'static [u8] {
+    match kind {
+        FaultKind::Name => b"name",
+        FaultKind::TypeKind => b"type",
+        FaultKind::Range => b"range",
+        FaultKind::Shape => b"shape",
+        FaultKind::Index => b"index",
+        FaultKind::Step => b"step",
+        FaultKind::Divisor => b"zero divisor",
+        FaultKind::Power => b"power",
+        FaultKind::ReadOnly => b"read-only",
+        FaultKind::Limit => b"limit",
     }
 }
 

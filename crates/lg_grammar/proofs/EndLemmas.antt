@@ -1,5 +1,5 @@
 -- What reading one line gives for the script, by how it ended.
-use Rattle.std.proofs.Common.{◌≡◌, ℕ, ◌+◌, ◌<◌, ◌≤◌, inl, inr, Result, Ok, Err, IfErr, IsErrAnd, Option, Some, List, [], ◌∷◌, length, sym, subst, arith, length-append}
+use Rattle.std.proofs.Common.{◌≡◌, ℕ, ◌+◌, ◌<◌, ◌≤◌, inl, inr, Option, Some, List, [], ◌∷◌, length, sym, subst, arith, length-append}
 use Rattle.std.proofs.lemmas.List.{length-map}
 use Rattle.lg_grammar.specs.Tree.{LineTree}
 use Rattle.lg_grammar.specs.Script.{lines_of, Spells, IsFirstBad, SpellsLine, IsBad}
@@ -11,11 +11,6 @@ use Rattle.lg_grammar.specs.declared.trees.Line.{Line}
 use Rattle.lg_grammar.specs.declared.scripts.ScriptEnd.{ScriptEnd}
 use Rattle.lg_grammar.specs.declared.scripts.ScriptEnd.TheVariants.{Syntax, NoMemory}
 use Rattle.lg_grammar.proofs.LineLemmas.{ReadSoFar, read_skipped, read_spelled, read_end, bad_none, bad_first, nothing_bad, full_bad}
-
--- an error that is handed on
-pub err_end : {T E : Type 0} (r : Result T E) (e : E) (P : E → Type 0) → IsErrAnd r (λ y. y ≡ e) → P e → IfErr r P
-err_end (Ok x) e P h p = tt
-err_end (Err y) e P h p = subst P (sym h) p
 
 -- a line that holds nothing is bad behind any others
 pub ends_adding : (number : ℕ) (line : List ℕ) (old : List LineTree) (e : ScriptEnd) → EndsLine number line e → EndsAdding number line old e

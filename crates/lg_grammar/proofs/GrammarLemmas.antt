@@ -1,10 +1,12 @@
 -- What tokens spell, taken apart and put together.
-use Rattle.std.proofs.Common.{◌≡◌, ℕ, ◌<◌, ◌≤◌, List, [], ◌∷◌, ◌++◌, length, refl, sym, ap, ◌∙◌, subst, arith, codes, length-drop}
+use Rattle.std.proofs.Common.{◌≡◌, ℕ, suc, max, ◌<◌, ◌≤◌, true, false, List, [], ◌∷◌, ◌++◌, length, refl, sym, ap, ◌∙◌, subst, arith, codes, length-drop, append_assoc, append-nil}
 use Rattle.std.proofs.lemmas.List.{length-map, drop_all}
-use Rattle.lg_grammar.specs.Token.{Token, word, opening, closing}
-use Rattle.lg_grammar.specs.Tree.{Tree, full, StatementTree, print}
-use Rattle.lg_grammar.specs.Grammar.{SpellsTree, a_full, SpellsStatement, a_print}
-use Rattle.lg_grammar.specs.Reading.{token_of, tokens_of, left, full_tokens, Finds, SpellsNothing}
+use Rattle.lg_grammar.specs.Token.{Token, word, equals, plus, opening, closing}
+use Rattle.lg_grammar.specs.Word.{IsName}
+use Rattle.lg_grammar.specs.Tree.{Tree, name, full, add, StatementTree, bind, print, height}
+use Rattle.lg_grammar.specs.Grammar.{sum, term, SpellsTree, a_name, a_full, one_term, added, SpellsStatement, a_bind, a_print}
+use Rattle.lg_grammar.specs.Reading.{token_of, tokens_of, left}
+use Rattle.lg_grammar.specs.Parsing.{full_tokens, Finds, BeginsNoPlus, FindsNoTerm, FindsNoSum}
 use Rattle.lg_grammar.specs.declared.tokens.Token.{Token as Span}
 
 -- no token stands past the end, and some before it
@@ -16,76 +18,264 @@ left_more line ts place inside e =
     let none : length (left line ts place) ≡ 0 = ap length e in
     omega (arith, length-map ts (token_of line), length-drop place (tokens_of line ts))
 
--- a tree's tokens
-pub record Full (ts : List Token) (e : Tree) : Type 0 where
-  pub extent : ℕ
-  pub value : ℕ
-  pub tokens : ts ≡ full_tokens extent value
-  pub tree : e ≡ full extent value
+-- reserved words are no names
+full_no_name : (w : List ℕ) → w ≡ codes "full" → IsName w → ⊥
+full_no_name w e h = let name : IsName (codes "full") = subst (λ (z : List ℕ). IsName z) e h in let clash : true ≡ false = name.1 in cc
 
-pub full_of : {ts : List Token} {e : Tree} → SpellsTree ts e → Full ts e
-full_of (a_full n x) = record { extent = n; value = x; tokens = refl; tree = refl }
+pub print_no_name : (w : List ℕ) → w ≡ codes "print" → IsName w → ⊥
+print_no_name w e h = let name : IsName (codes "print") = subst (λ (z : List ℕ). IsName z) e h in let clash : true ≡ false = name.1 in cc
+
+-- a term, by its tokens
+pub data IsTerm : List Token → Tree → Type 0 where
+  named : (w : List ℕ) (ts : List Token) (e : Tree) → IsName w → ts ≡ word w ∷ [] → e ≡ name w → IsTerm ts e
+  filled : (n x : ℕ) (ts : List Token) (e : Tree) → ts ≡ full_tokens n x → e ≡ full n x → IsTerm ts e
+
+pub term_of : {ts : List Token} {e : Tree} → SpellsTree term ts e → IsTerm ts e
+term_of (a_name w h) = named w (word w ∷ []) (name w) h refl refl
+term_of (a_full n x) = filled n x (full_tokens n x) (full n x) refl refl
 
 full_once : (n x m y : ℕ) (a b : List Token) → full_tokens n x ++ a ≡ full_tokens m y ++ b → (n ≡ m) × (x ≡ y) × (a ≡ b)
 full_once n x m y a b e = (cc, cc, cc)
 
--- the tree in front is determined, and so is what stands after it
-pub tree_once : (ts us : List Token) (e f : Tree) (a b : List Token) → SpellsTree ts e → SpellsTree us f → ts ++ a ≡ us ++ b → (e ≡ f) × (a ≡ b)
-tree_once ts us e f a b h k same =
-    let p = full_of h in
-    let q = full_of k in
-    let joined : full_tokens p.extent p.value ++ a ≡ full_tokens q.extent q.value ++ b = ap (λ (z : List Token). z ++ a) (sym p.tokens) ∙ same ∙ ap (λ (z : List Token). z ++ b) q.tokens in
-    let r = full_once p.extent p.value q.extent q.value a b joined in
-    (p.tree ∙ ap (λ (n : ℕ). full n p.value) r.0 ∙ ap (λ (x : ℕ). full q.extent x) r.1 ∙ sym q.tree, r.2)
+name_once : (w v : List ℕ) (a b : List Token) → (word w ∷ []) ++ a ≡ (word v ∷ []) ++ b → (w ≡ v) × (a ≡ b)
+name_once w v a b e = (cc, cc)
 
-pub finds_full : (from next : List Token) (n x : ℕ) → from ≡ full_tokens n x ++ next → Finds from next (full n x)
-finds_full from next n x e = record { front = full_tokens n x; cut = e; spelled = a_full n x }
+mixed : (w : List ℕ) (n x : ℕ) (a b : List Token) → (word w ∷ []) ++ a ≡ full_tokens n x ++ b → w ≡ codes "full"
+mixed w n x a b e = cc
 
--- a statement's tokens
-pub record Printed (ts : List Token) (s : StatementTree) : Type 0 where
-  pub front : List Token
+swap_front : (ts us vs ws a b : List Token) → ts ++ a ≡ us ++ b → ts ≡ vs → us ≡ ws → vs ++ a ≡ ws ++ b
+swap_front ts us vs ws a b e p q = ap (λ (z : List Token). z ++ a) (sym p) ∙ e ∙ ap (λ (z : List Token). z ++ b) q
+
+-- the term in front is determined, and so is what stands after it
+terms_once : {ts us : List Token} {e f : Tree} (a b : List Token) → IsTerm ts e → IsTerm us f → ts ++ a ≡ us ++ b → (e ≡ f) × (a ≡ b)
+terms_once a b (named w ts e h p q) (named v us f k r s) same =
+    let o = name_once w v a b (swap_front ts us (word w ∷ []) (word v ∷ []) a b same p r) in
+    (q ∙ ap name o.0 ∙ sym s, o.1)
+terms_once a b (filled n x ts e p q) (filled m y us f r s) same =
+    let o = full_once n x m y a b (swap_front ts us (full_tokens n x) (full_tokens m y) a b same p r) in
+    (q ∙ ap (λ (z : ℕ). full z x) o.0 ∙ ap (λ (z : ℕ). full m z) o.1 ∙ sym s, o.2)
+terms_once a b (named w ts e h p q) (filled m y us f r s) same =
+    absurd (full_no_name w (mixed w m y a b (swap_front ts us (word w ∷ []) (full_tokens m y) a b same p r)) h)
+terms_once a b (filled n x ts e p q) (named v us f k r s) same =
+    absurd (full_no_name v (mixed v n x b a (swap_front us ts (word v ∷ []) (full_tokens n x) b a (sym same) r p)) k)
+
+pub term_once : (ts us : List Token) (e f : Tree) (a b : List Token) → SpellsTree term ts e → SpellsTree term us f → ts ++ a ≡ us ++ b → (e ≡ f) × (a ≡ b)
+term_once ts us e f a b h k same = terms_once a b (term_of h) (term_of k) same
+
+-- a sum that goes on from the tree so far
+pub data Continues : Tree → List Token → Tree → Type 0 where
+  stops : {a : Tree} → Continues a [] a
+  goes_on : {a b e : Tree} {us vs : List Token} → SpellsTree term us b → Continues (add a b) vs e → Continues a (plus ∷ (us ++ vs)) e
+
+extend : {a c b : Tree} {vs us : List Token} → Continues a vs c → SpellsTree term us b → Continues a (vs ++ (plus ∷ us)) (add c b)
+extend {a} {b = b} {us = us} stops h = subst (λ (z : List Token). Continues a (plus ∷ z) (add a b)) (append-nil us) (goes_on h stops)
+extend {a} {c = c} {b = b} {us = us} (goes_on {us = xs} {vs = ys} k more) h =
+    subst (λ (z : List Token). Continues a (plus ∷ z) (add c b)) (sym (append_assoc xs ys (plus ∷ us))) (goes_on k (extend more h))
+
+-- a sum is a term and what goes on from it
+pub record Chain (ts : List Token) (e : Tree) : Type 0 where
+  pub first : List Token
+  pub others : List Token
   pub tree : Tree
-  pub tokens : ts ≡ word (codes "print") ∷ opening ∷ (front ++ (closing ∷ []))
-  pub statement : s ≡ print tree
-  pub spelled : SpellsTree front tree
+  pub tokens : ts ≡ first ++ others
+  pub spelled : SpellsTree term first tree
+  pub more : Continues tree others e
 
-pub printed_of : {ts : List Token} {s : StatementTree} → SpellsStatement ts s → Printed ts s
-printed_of (a_print {ts = front} {e = e} h) = record { front = front; tree = e; tokens = refl; statement = refl; spelled = h }
+pub chain_of : {ts : List Token} {e : Tree} → SpellsTree sum ts e → Chain ts e
+chain_of (one_term {ts = ts} {e = e} h) = record { first = ts; others = []; tree = e; tokens = sym (append-nil ts); spelled = h; more = stops }
+chain_of (added {ts = ts} {us = us} {a = a} {b = b} h k) =
+    let c = chain_of h in
+    record {
+      first = c.first;
+      others = c.others ++ (plus ∷ us);
+      tree = c.tree;
+      tokens = ap (λ (z : List Token). z ++ (plus ∷ us)) c.tokens ∙ append_assoc c.first c.others (plus ∷ us);
+      spelled = c.spelled;
+      more = extend c.more k;
+    }
+
+-- what goes on is no lower
+pub continues_higher : {a e : Tree} {vs : List Token} → Continues a vs e → height a ≤ height e
+continues_higher {a} stops = omega arith
+continues_higher {a} (goes_on {b = b} h more) =
+    let higher : suc (max (height a) (height b)) ≤ _ = continues_higher more in
+    omega arith
+
+-- how a chain goes on, by its tokens
+pub data Goes (a : Tree) (vs : List Token) (e : Tree) : Type 0 where
+  ends : vs ≡ [] → e ≡ a → Goes a vs e
+  adds : (us ws : List Token) (b : Tree) → vs ≡ plus ∷ (us ++ ws) → SpellsTree term us b → Continues (add a b) ws e → Goes a vs e
+
+pub goes_of : {a e : Tree} {vs : List Token} → Continues a vs e → Goes a vs e
+goes_of stops = ends refl refl
+goes_of (goes_on {b = b} {us = us} {vs = vs} h more) = adds us vs b refl h more
+
+plus_clash : (vs rest us ws x : List Token) → vs ≡ [] → vs ++ rest ≡ (plus ∷ (us ++ ws)) ++ x → rest ≡ plus ∷ ((us ++ ws) ++ x)
+plus_clash vs rest us ws x e h = ap (λ (z : List Token). z ++ rest) (sym e) ∙ h
+
+plus_tail : (vs ws us xs a b c d : List Token) → vs ≡ plus ∷ (us ++ a) → ws ≡ plus ∷ (xs ++ b) → vs ++ c ≡ ws ++ d → us ++ (a ++ c) ≡ xs ++ (b ++ d)
+plus_tail vs ws us xs a b c d p q e =
+    let h : plus ∷ ((us ++ a) ++ c) ≡ plus ∷ ((xs ++ b) ++ d) = swap_front vs ws (plus ∷ (us ++ a)) (plus ∷ (xs ++ b)) c d e p q in
+    let t : (us ++ a) ++ c ≡ (xs ++ b) ++ d = cc in
+    sym (append_assoc us a c) ∙ t ∙ append_assoc xs b d
+
+stops_once : (a f : Tree) (ws x y : List Token) → Goes a ws f → x ≡ ws ++ y → BeginsNoPlus x → (a ≡ f) × (x ≡ y)
+stops_once a f ws x y (ends p q) e none = (sym q, e ∙ ap (λ (z : List Token). z ++ y) p)
+stops_once a f ws x y (adds us vs b p h more) e none = absurd (none ((us ++ vs) ++ y) (e ∙ ap (λ (z : List Token). z ++ y) p))
+
+-- what goes on up to where no `+` stands is determined
+continues_once : {a e : Tree} {vs : List Token} → Continues a vs e → (f : Tree) (ws x y : List Token) → Continues a ws f → vs ++ x ≡ ws ++ y → BeginsNoPlus x → BeginsNoPlus y → (e ≡ f) × (x ≡ y)
+continues_once {a} stops f ws x y k e p q = stops_once a f ws x y (goes_of k) e p
+continues_once {a} {e} (goes_on {b = b} {us = us} {vs = vs} h more) f ws x y k same p q =
+    elim (goes_of k) [
+      | ends r s ↦ absurd (q ((us ++ vs) ++ x) (sym (same ∙ ap (λ (z : List Token). z ++ y) r)))
+      | adds xs zs c r m others ↦
+          let tail : us ++ (vs ++ x) ≡ xs ++ (zs ++ y) = plus_tail (plus ∷ (us ++ vs)) ws us xs vs zs x y refl r same in
+          let o = term_once us xs b c (vs ++ x) (zs ++ y) h m tail in
+          continues_once more f zs x y (subst (λ (z : Tree). Continues (add a z) zs f) (sym o.0) others) o.1 p q
+    ]
+
+-- the longest sum in front is determined, and so is what stands after it
+pub sum_once : (ts us : List Token) (e f : Tree) (x y : List Token) → SpellsTree sum ts e → SpellsTree sum us f → ts ++ x ≡ us ++ y → BeginsNoPlus x → BeginsNoPlus y → (e ≡ f) × (x ≡ y)
+sum_once ts us e f x y h k same p q =
+    let c = chain_of h in
+    let d = chain_of k in
+    let joined : c.first ++ (c.others ++ x) ≡ d.first ++ (d.others ++ y) =
+    sym (append_assoc c.first c.others x) ∙ swap_front ts us (c.first ++ c.others) (d.first ++ d.others) x y same c.tokens d.tokens ∙ append_assoc d.first d.others y in
+    let o = term_once c.first d.first c.tree d.tree (c.others ++ x) (d.others ++ y) c.spelled d.spelled joined in
+    continues_once c.more f d.others x y (subst (λ (z : Tree). Continues z d.others f) (sym o.0) d.more) o.1 p q
+
+-- a term as what is found
+pub finds_full : (from next : List Token) (n x : ℕ) → from ≡ full_tokens n x ++ next → Finds term from next (full n x)
+finds_full from next n x cut = record { front = full_tokens n x; cut = cut; spelled = a_full n x }
+
+pub finds_name : (from next : List Token) (w : List ℕ) → from ≡ word w ∷ next → IsName w → Finds term from next (name w)
+finds_name from next w cut h = record { front = word w ∷ []; cut = cut; spelled = a_name w h }
+
+term_cases : (from front rest : List Token) (e : Tree) → IsTerm front e → from ≡ front ++ rest → ((n x : ℕ) (rest : List Token) → from ≡ full_tokens n x ++ rest → ⊥) → ((w : List ℕ) (rest : List Token) → from ≡ word w ∷ rest → IsName w → ⊥) → ⊥
+term_cases from front rest e (named w ts f h p q) cut none other = other w rest (cut ∙ ap (λ (z : List Token). z ++ rest) p) h
+term_cases from front rest e (filled n x ts f p q) cut none other = none n x rest (cut ∙ ap (λ (z : List Token). z ++ rest) p)
+
+pub no_term : (from : List Token) → ((n x : ℕ) (rest : List Token) → from ≡ full_tokens n x ++ rest → ⊥) → ((w : List ℕ) (rest : List Token) → from ≡ word w ∷ rest → IsName w → ⊥) → FindsNoTerm from
+no_term from none other front rest e cut h = term_cases from front rest e (term_of h) cut none other
+
+-- a sum up to a place, and what goes on there
+pub record SumSoFar (from next : List Token) (e : Tree) : Type 0 where
+  pub found : Finds sum from next e
+  pub complete : (front rest : List Token) (f : Tree) → from ≡ front ++ rest → SpellsTree sum front f → BeginsNoPlus rest → (others : List Token) × ((next ≡ others ++ rest) × Continues e others f)
+
+pub sum_starts : (from next : List Token) (e : Tree) → Finds term from next e → SumSoFar from next e
+sum_starts from next e h = record {
+  found = record { front = h.front; cut = h.cut; spelled = one_term h.spelled };
+  complete = λ front rest f cut k none.
+      let c = chain_of k in
+      let joined : h.front ++ next ≡ c.first ++ (c.others ++ rest) = sym h.cut ∙ cut ∙ ap (λ (z : List Token). z ++ rest) c.tokens ∙ append_assoc c.first c.others rest in
+      let o = term_once h.front c.first e c.tree next (c.others ++ rest) h.spelled c.spelled joined in
+      (c.others, (o.1, subst (λ (z : Tree). Continues z c.others f) (sym o.0) c.more));
+}
+
+pub no_first : (from : List Token) → FindsNoTerm from → FindsNoSum from
+no_first from none front rest e cut h stop low =
+    let c = chain_of h in
+    none c.first (c.others ++ rest) c.tree (cut ∙ ap (λ (z : List Token). z ++ rest) c.tokens ∙ append_assoc c.first c.others rest) c.spelled
+
+-- a `+` and what goes on after it
+pub record GoesOn (from after : List Token) (e f : Tree) (rest : List Token) : Type 0 where
+  pub first : List Token
+  pub others : List Token
+  pub tree : Tree
+  pub cut : after ≡ first ++ (others ++ rest)
+  pub spelled : SpellsTree term first tree
+  pub more : Continues (add e tree) others f
+
+goes_on_from : (from next after others rest : List Token) (e f : Tree) → next ≡ plus ∷ after → next ≡ others ++ rest → Goes e others f → BeginsNoPlus rest → GoesOn from after e f rest
+goes_on_from from next after others rest e f p q (ends r s) stop =
+    absurd (stop after (sym (ap (λ (z : List Token). z ++ rest) r) ∙ sym q ∙ p))
+goes_on_from from next after others rest e f p q (adds us ws b r h more) stop =
+    let whole : plus ∷ after ≡ plus ∷ ((us ++ ws) ++ rest) = sym p ∙ q ∙ ap (λ (z : List Token). z ++ rest) r in
+    let tail : after ≡ (us ++ ws) ++ rest = cc in
+    record { first = us; others = ws; tree = b; cut = tail ∙ append_assoc us ws rest; spelled = h; more = more }
+
+pub goes_on_here : (from next after : List Token) (e : Tree) → next ≡ plus ∷ after → SumSoFar from next e → (front rest : List Token) (f : Tree) → from ≡ front ++ rest → SpellsTree sum front f → BeginsNoPlus rest → GoesOn from after e f rest
+goes_on_here from next after e p h front rest f cut k stop =
+    let c = h.complete front rest f cut k stop in
+    goes_on_from from next after c.0 rest e f p c.1.0 (goes_of c.1.1) stop
+
+-- one term more
+pub sum_more : (from next after later : List Token) (e b : Tree) → next ≡ plus ∷ after → Finds term after later b → SumSoFar from next e → SumSoFar from later (add e b)
+sum_more from next after later e b p h s =
+    let whole : from ≡ (s.found.front ++ (plus ∷ h.front)) ++ later =
+    s.found.cut ∙ ap (λ (z : List Token). s.found.front ++ z) (p ∙ ap (λ (z : List Token). plus ∷ z) h.cut) ∙ sym (append_assoc s.found.front (plus ∷ h.front) later) in
+    record {
+      found = record { front = s.found.front ++ (plus ∷ h.front); cut = whole; spelled = added s.found.spelled h.spelled };
+      complete = λ front rest f cut k stop.
+          let g = goes_on_here from next after e p s front rest f cut k stop in
+          let o = term_once h.front g.first b g.tree later (g.others ++ rest) h.spelled g.spelled (sym h.cut ∙ g.cut) in
+          (g.others, (o.1, subst (λ (z : Tree). Continues (add e z) g.others f) (sym o.0) g.more));
+    }
+
+pub no_more : (from next after : List Token) (e : Tree) → next ≡ plus ∷ after → FindsNoTerm after → SumSoFar from next e → FindsNoSum from
+no_more from next after e p none s front rest f cut k stop low =
+    let g = goes_on_here from next after e p s front rest f cut k stop in
+    none g.first (g.others ++ rest) g.tree g.cut g.spelled
+
+-- or one that is too high
+pub too_high : (from next after later : List Token) (e b : Tree) → next ≡ plus ∷ after → Finds term after later b → 200 < suc (max (height e) (height b)) → SumSoFar from next e → FindsNoSum from
+too_high from next after later e b p h high s front rest f cut k stop low =
+    let g = goes_on_here from next after e p s front rest f cut k stop in
+    let o = term_once h.front g.first b g.tree later (g.others ++ rest) h.spelled g.spelled (sym h.cut ∙ g.cut) in
+    let same : height b ≡ height g.tree = ap height o.0 in
+    let higher : suc (max (height e) (height g.tree)) ≤ height f = continues_higher g.more in
+    omega arith
+
+-- a statement, by its tokens
+pub data IsStatement (ts : List Token) (s : StatementTree) : Type 0 where
+  bound : (w : List ℕ) (us : List Token) (e : Tree) → IsName w → ts ≡ word w ∷ equals ∷ us → s ≡ bind w e → SpellsTree sum us e → height e ≤ 200 → IsStatement ts s
+  printed : (us : List Token) (e : Tree) → ts ≡ word (codes "print") ∷ opening ∷ (us ++ (closing ∷ [])) → s ≡ print e → SpellsTree sum us e → height e ≤ 200 → IsStatement ts s
+
+pub statement_of_tokens : {ts : List Token} {s : StatementTree} → SpellsStatement ts s → IsStatement ts s
+statement_of_tokens (a_bind {w = w} {ts = us} {e = e} h k low) = bound w us e h refl refl k low
+statement_of_tokens (a_print {ts = us} {e = e} k low) = printed us e refl refl k low
+
+end_no_plus : BeginsNoPlus []
+end_no_plus ts e = cc
+
+closing_no_plus : (rest : List Token) → BeginsNoPlus (closing ∷ rest)
+closing_no_plus rest ts e = cc
+
+nil_sum : (us : List Token) → us ++ [] ≡ us
+nil_sum us = append-nil us
+
+bind_tail : (w v : List ℕ) (us vs : List Token) → word w ∷ equals ∷ us ≡ word v ∷ equals ∷ vs → (w ≡ v) × (us ++ [] ≡ vs ++ [])
+bind_tail w v us vs e =
+    let tail : us ≡ vs = cc in
+    (cc, append-nil us ∙ tail ∙ sym (append-nil vs))
+
+print_tail : (us vs : List Token) → word (codes "print") ∷ opening ∷ us ≡ word (codes "print") ∷ opening ∷ vs → us ≡ vs
+print_tail us vs e = cc
+
+kinds_apart : (w : List ℕ) (us vs : List Token) → word w ∷ equals ∷ us ≡ word (codes "print") ∷ opening ∷ vs → ⊥
+kinds_apart w us vs e = cc
+
+statements_once : {ts : List Token} {s t : StatementTree} → IsStatement ts s → IsStatement ts t → s ≡ t
+statements_once (bound w us e h p q k low) (bound v vs f g r t m below) =
+    let o = bind_tail w v us vs (sym p ∙ r) in
+    let z = sum_once us vs e f [] [] k m o.1 end_no_plus end_no_plus in
+    q ∙ ap (λ (x : List ℕ). bind x e) o.0 ∙ ap (bind v) z.0 ∙ sym t
+statements_once (printed us e p q k low) (printed vs f r t m below) =
+    let o = print_tail (us ++ (closing ∷ [])) (vs ++ (closing ∷ [])) (sym p ∙ r) in
+    let z = sum_once us vs e f (closing ∷ []) (closing ∷ []) k m o (closing_no_plus []) (closing_no_plus []) in
+    q ∙ ap print z.0 ∙ sym t
+statements_once (bound w us e h p q k low) (printed vs f r t m below) = absurd (kinds_apart w us (vs ++ (closing ∷ [])) (sym p ∙ r))
+statements_once (printed us e p q k low) (bound v vs f g r t m below) = absurd (kinds_apart v vs (us ++ (closing ∷ [])) (sym r ∙ p))
 
 -- tokens spell one statement at most
 pub statement_once : (ts : List Token) (s t : StatementTree) → SpellsStatement ts s → SpellsStatement ts t → s ≡ t
-statement_once ts s t h k =
-    let p = printed_of h in
-    let q = printed_of k in
-    let both : word (codes "print") ∷ opening ∷ (p.front ++ (closing ∷ [])) ≡ word (codes "print") ∷ opening ∷ (q.front ++ (closing ∷ [])) = sym p.tokens ∙ q.tokens in
-    let joined : p.front ++ (closing ∷ []) ≡ q.front ++ (closing ∷ []) = cc in
-    let r = tree_once p.front q.front p.tree q.tree (closing ∷ []) (closing ∷ []) p.spelled q.spelled joined in
-    p.statement ∙ ap print r.0 ∙ sym q.statement
+statement_once ts s t h k = statements_once (statement_of_tokens h) (statement_of_tokens k)
+
+none_spelled : (ts : List Token) (s : StatementTree) → IsStatement ts s → ts ≡ [] → ⊥
+none_spelled ts s (bound w us e h p q k low) none = let clash : [] ≡ word w ∷ equals ∷ us = sym none ∙ p in cc
+none_spelled ts s (printed us e p q k low) none = let clash : [] ≡ word (codes "print") ∷ opening ∷ (us ++ (closing ∷ [])) = sym none ∙ p in cc
 
 pub no_statement : (s : StatementTree) → SpellsStatement [] s → ⊥
-no_statement s h = let p = printed_of h in let none = p.tokens in cc
-
--- `print`, an opening bracket, a tree and a closing bracket at the end
-pub print_found : (ts a b c d : List Token) (e : Tree) → ts ≡ word (codes "print") ∷ a → a ≡ opening ∷ b → Finds b c e → c ≡ closing ∷ d → d ≡ [] → SpellsStatement ts (print e)
-print_found ts a b c d e p q f r none =
-    let end : c ≡ closing ∷ [] = r ∙ ap (λ (z : List Token). closing ∷ z) none in
-    let whole : ts ≡ word (codes "print") ∷ opening ∷ (f.front ++ (closing ∷ [])) =
-    p ∙ ap (λ (z : List Token). word (codes "print") ∷ z) (q ∙ ap (λ (z : List Token). opening ∷ z) (f.cut ∙ ap (λ (z : List Token). f.front ++ z) end)) in
-    subst (λ (z : List Token). SpellsStatement z (print e)) (sym whole) (a_print f.spelled)
-
--- after the tree a closing bracket stands at the end
-print_end : (ts a b c : List Token) (e : Tree) (s : StatementTree) → ts ≡ word (codes "print") ∷ a → a ≡ opening ∷ b → Finds b c e → SpellsStatement ts s → c ≡ closing ∷ []
-print_end ts a b c e s p q f h =
-    let o = printed_of h in
-    let own : word (codes "print") ∷ opening ∷ (f.front ++ c) ≡ word (codes "print") ∷ opening ∷ (o.front ++ (closing ∷ [])) =
-    ap (λ (z : List Token). word (codes "print") ∷ z) (ap (λ (z : List Token). opening ∷ z) (sym f.cut) ∙ sym q) ∙ sym p ∙ o.tokens in
-    let joined : f.front ++ c ≡ o.front ++ (closing ∷ []) = cc in
-    (tree_once f.front o.front e o.tree c (closing ∷ []) f.spelled o.spelled joined).1
-
-pub print_open : (ts a b c : List Token) (e : Tree) → ts ≡ word (codes "print") ∷ a → a ≡ opening ∷ b → Finds b c e → ((rest : List Token) → c ≡ closing ∷ rest → ⊥) → SpellsNothing ts
-print_open ts a b c e p q f none s h = none [] (print_end ts a b c e s p q f h)
-
-pub print_more : (ts a b c d : List Token) (e : Tree) → ts ≡ word (codes "print") ∷ a → a ≡ opening ∷ b → Finds b c e → c ≡ closing ∷ d → (d ≡ [] → ⊥) → SpellsNothing ts
-print_more ts a b c d e p q f r some s h =
-    let end : closing ∷ d ≡ closing ∷ [] = sym r ∙ print_end ts a b c e s p q f h in
-    some (cc)
+no_statement s h = none_spelled [] s (statement_of_tokens h) refl

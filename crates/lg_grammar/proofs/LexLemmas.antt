@@ -5,7 +5,7 @@ use Rattle.std.proofs.lemmas.List.{drop_more, drop_all, map_push}
 use Rattle.std.proofs.lemmas.List.Elements.{All-push}
 use Rattle.std.proofs.lemmas.Bool.{both_ways}
 use Rattle.lg_grammar.specs.Token.{Token, is_blank, text_of, IsToken, EndsBefore, Lexes}
-use Rattle.lg_grammar.specs.Reading.{Takes, TakesNone, IsNext, IsInside, token_of, tokens_of, LexesNone}
+use Rattle.lg_grammar.specs.Reading.{Takes, TakesNone, Reaches, IsFault, IsNext, IsSpan, token_of, tokens_of, LexesNone}
 use Rattle.lg_grammar.specs.declared.tokens.Token.{Token as Span}
 use Rattle.lg_grammar.proofs.TokenLemmas.{kind_of, first_solid, token_once, rest_once}
 
@@ -28,6 +28,12 @@ solid_head b bs rest t h e =
     let joined : b ∷ bs ≡ (f.0 ∷ f.1) ++ rest = e ∙ ap (λ (z : List ℕ). z ++ rest) f.2.0 in
     let same : b ≡ f.0 = cc in
     ap is_blank same ∙ f.2.1
+
+pub token_text : (t : Token) → IsToken t → 0 < length (text_of t)
+token_text t h =
+    let f = first_solid (kind_of t h) in
+    let count : length (text_of t) ≡ length (f.0 ∷ f.1) = ap length f.2.0 in
+    omega arith
 
 some_text : (rest : List ℕ) (t : Token) → IsToken t → 0 < length (text_of t ++ rest)
 some_text rest t h =
@@ -70,13 +76,30 @@ pub lexes_first : (b : ℕ) (bs : List ℕ) (all : List Token) → is_blank b �
 lexes_first b bs [] e h = absurd (both_ways (is_blank b) e h.0)
 lexes_first b bs (t ∷ ts) e h = first_at b bs h.0 h.1 t ts e h.2.1 h.2.0 h.2.2 h.2.3 h.2.4
 
+-- how far a line was read
+reaches_start : (line : List ℕ) → Reaches line [] line
+reaches_start line = ([], (refl, tt))
+
+blank_push : (blanks : List ℕ) (b : ℕ) → AllBlank blanks → is_blank b ≡ true → AllBlank (blanks ++ b ∷ [])
+blank_push [] b all e = (e, tt)
+blank_push (c ∷ blanks) b all e = (all.0, blank_push blanks b all.1 e)
+
+reaches_blank : (line : List ℕ) (ts : List Token) (b : ℕ) (rest : List ℕ) → is_blank b ≡ true → Reaches line ts (b ∷ rest) → Reaches line ts rest
+reaches_blank line [] b rest e h = (h.0 ++ b ∷ [], (h.1.0 ∙ sym (append_assoc h.0 (b ∷ []) rest), blank_push h.0 b h.1.1 e))
+reaches_blank line (t ∷ ts) b rest e h = (h.0, h.1, (h.2.0, h.2.1, h.2.2, h.2.3, reaches_blank h.1 ts b rest e h.2.4))
+
+reaches_token : (line : List ℕ) (ts : List Token) (bs : List ℕ) (t : Token) (rest : List ℕ) → Takes bs t rest → Reaches line ts bs → Reaches line (ts ++ t ∷ []) rest
+reaches_token line [] bs t rest h r = (r.0, rest, (r.1.0 ∙ ap (λ (z : List ℕ). r.0 ++ z) h.cut, r.1.1, h.token, h.ends, reaches_start rest))
+reaches_token line (u ∷ ts) bs t rest h r = (r.0, r.1, (r.2.0, r.2.1, r.2.2, r.2.3, reaches_token r.1 ts bs t rest h r.2.4))
+
 -- the tokens up to a place, and what they say of the line
 pub record LexedSoFar (line : List ℕ) (place : ℕ) (done : List Token) : Type 0 where
   pub sound : (more : List Token) → Lexes (drop place line) more → Lexes line (done ++ more)
   pub complete : (all : List Token) → Lexes line all → (more : List Token) × Lexes (drop place line) more
+  pub reached : Reaches line done (drop place line)
 
 pub lexed_start : (line : List ℕ) → LexedSoFar line 0 []
-lexed_start line = record { sound = λ more h. h; complete = λ all h. (all, h) }
+lexed_start line = record { sound = λ more h. h; complete = λ all h. (all, h); reached = reaches_start line }
 
 pub lexed_blank : (line : List ℕ) (place : ℕ) (done : List Token) → place < length line → is_blank (get_or line place 0) ≡ true → LexedSoFar line place done → LexedSoFar line (place + 1) done
 lexed_blank line place done inside blank h =
@@ -84,6 +107,7 @@ lexed_blank line place done inside blank h =
     record {
       sound = λ more k. h.sound more (subst (λ (z : List ℕ). Lexes z more) (sym cut) (lexes_blank (get_or line place 0) (drop (place + 1) line) more blank k));
       complete = λ all k. let p = h.complete all k in (p.0, lexes_unblank (get_or line place 0) (drop (place + 1) line) p.0 blank (subst (λ (z : List ℕ). Lexes z p.0) cut p.1));
+      reached = reaches_blank line done (get_or line place 0) (drop (place + 1) line) blank (subst (λ (z : List ℕ). Reaches line done z) cut h.reached);
     }
 
 first_here : (line : List ℕ) (place : ℕ) (all : List Token) → place < length line → is_blank (get_or line place 0) ≡ false → Lexes (drop place line) all → First (drop place line) all
@@ -100,6 +124,7 @@ lexed_token line place done span inside solid next h =
           let p = h.complete all k in
           let f = first_here line place p.0 inside solid p.1 in
           (f.others, subst (λ (z : List ℕ). Lexes z f.others) (rest_once (drop place line) f.token t f.rest (drop span.end line) f.taken next.taken) f.more);
+      reached = reaches_token line done (drop place line) t (drop span.end line) next.taken h.reached;
     }
 
 pub lexed_end : (line : List ℕ) (place : ℕ) (done : List Token) → length line ≤ place → LexedSoFar line place done → Lexes line done
@@ -111,6 +136,9 @@ lexed_never line place done inside solid none h all k =
     let p = h.complete all k in
     let f = first_here line place p.0 inside solid p.1 in
     none f.token f.rest f.taken
+
+pub lexed_fault : (line : List ℕ) (place : ℕ) (done : List Token) → place < length line → is_blank (get_or line place 0) ≡ false → TakesNone (drop place line) → LexedSoFar line place done → IsFault line place
+lexed_fault line place done inside solid none h = record { front = done; reached = h.reached; inside = inside; solid = solid; none = none }
 
 -- a line of blanks alone has no token
 blank_none : (line : List ℕ) (t : Token) (ts : List Token) → AllBlank line → Lexes line (t ∷ ts) → ⊥
@@ -145,12 +173,12 @@ lexed_push line place done items span inside solid next e h =
     let same : tokens_of line items ≡ tokens_of line done ++ token_of line span ∷ [] = ap (tokens_of line) e ∙ map_push (token_of line) done span in
     subst (λ (z : List Token). LexedSoFar line span.end z) (sym same) (lexed_token line place (tokens_of line done) span inside solid next h)
 
-span_inside : (line : List ℕ) (place : ℕ) (span : Span) → IsNext line place span → IsInside line span
+span_inside : (line : List ℕ) (place : ℕ) (span : Span) → IsNext line place span → IsSpan line span
 span_inside line place span next =
     let start = next.start in
     let further : place < span.end = next.further in
-    (omega arith, next.within)
+    (omega arith, next.within, next.taken.token)
 
-pub inside_push : (line : List ℕ) (place : ℕ) (done items : List Span) (span : Span) → IsNext line place span → items ≡ done ++ span ∷ [] → All (IsInside line) done → All (IsInside line) items
+pub inside_push : (line : List ℕ) (place : ℕ) (done items : List Span) (span : Span) → IsNext line place span → items ≡ done ++ span ∷ [] → All (IsSpan line) done → All (IsSpan line) items
 inside_push line place done items span next e h =
-    subst (λ (z : List Span). All (IsInside line) z) (sym e) (All-push (IsInside line) done span h (span_inside line place span next))
+    subst (λ (z : List Span). All (IsSpan line) z) (sym e) (All-push (IsSpan line) done span h (span_inside line place span next))

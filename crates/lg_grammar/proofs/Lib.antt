@@ -1,8 +1,12 @@
+pub mod ResultLemmas
 pub mod NumberLemmas
 pub mod TokenLemmas
 pub mod LexLemmas
 pub mod PlaceLemmas
+pub mod TreeLemmas
 pub mod GrammarLemmas
+pub mod ParseLemmas
 pub mod LineLemmas
 pub mod SplitLemmas
 pub mod EndLemmas
+pub mod SizeLemmas

@@ -5,7 +5,8 @@ use Rattle.lg_grammar.specs.Token.{Token, Lexes}
 use Rattle.lg_grammar.specs.Tree.{StatementTree, LineTree}
 use Rattle.lg_grammar.specs.Grammar.{SpellsStatement}
 use Rattle.lg_grammar.specs.Script.{lines_of, IsIndented, SpellsLine, IsSkipped, SpellsLines, Spells, IsBad, IsFirstBad}
-use Rattle.lg_grammar.specs.Reading.{token_of, tokens_of, LexesNone, SpellsNothing}
+use Rattle.lg_grammar.specs.Reading.{token_of, tokens_of, LexesNone}
+use Rattle.lg_grammar.specs.Parsing.{SpellsNothing}
 use Rattle.lg_grammar.specs.declared.tokens.Token.{Token as Span}
 use Rattle.lg_grammar.specs.Lines.{HoldsNothing}
 use Rattle.lg_grammar.proofs.LexLemmas.{lexes_once}

@@ -2,7 +2,7 @@
 use Rattle.std.proofs.Common.{◌≡◌, ℕ, suc, zero, ◌+◌, ◌<◌, Option, None, Some, IfSome, IfNone, List, [], ◌∷◌, length, get_or, refl, sym, ap, subst, add-one}
 use Rattle.std.specs.List.{All, slice_get}
 use Rattle.std.proofs.lemmas.Option.{slice_get_within, get_or_from_slice_get}
-use Rattle.lg_grammar.specs.Reading.{token_from, token_of, tokens_of, left, IsInside, IsSign}
+use Rattle.lg_grammar.specs.Reading.{token_from, token_of, tokens_of, left, IsSpan, IsSign}
 use Rattle.lg_grammar.specs.declared.tokens.Token.{Token as Span}
 use Rattle.lg_grammar.specs.declared.tokens.TokenKind.{TokenKind}
 use Rattle.lg_grammar.specs.declared.tokens.TokenKind.TheVariants.{Word, Number, Equals, Plus, Opening, Closing, Comma}
@@ -23,12 +23,12 @@ pub found_at : (o : Option Span) (ts : List Span) (place : ℕ) → o ≡ slice_
 found_at None ts place e = tt
 found_at (Some t) ts place e = λ line. rw add-one (left_some line ts place t (sym e))
 
-pub inside_at : (o : Option Span) (ts : List Span) (place : ℕ) → o ≡ slice_get ts place → IfSome o (λ t. (line : List ℕ) → All (IsInside line) ts → IsInside line t)
+pub inside_at : (o : Option Span) (ts : List Span) (place : ℕ) → o ≡ slice_get ts place → IfSome o (λ t. (line : List ℕ) → All (IsSpan line) ts → IsSpan line t)
 inside_at None ts place e = tt
 inside_at (Some t) ts place e = λ line h.
     let within : place < length ts = slice_get_within ts place t (sym e) in
     let same : get_or ts place t ≡ t = get_or_from_slice_get ts place t t (sym e) in
-    subst (λ (z : Span). IsInside line z) same (h place t within)
+    subst (λ (z : Span). IsSpan line z) same (h place t within)
 
 pub within_at : (o : Option Span) (ts : List Span) (place : ℕ) → o ≡ slice_get ts place → IfSome o (λ t. place < length ts)
 within_at None ts place e = tt

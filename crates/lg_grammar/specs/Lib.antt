@@ -1,9 +1,11 @@
 pub mod Token
+pub mod Word
 pub mod Tree
 pub mod Grammar
 pub mod Script
+pub mod View
 pub mod Reading
 pub mod Signs
-pub mod View
+pub mod Parsing
 pub mod Lines
 pub mod Ends

@@ -1,8 +1,7 @@
 -- How the tokens of the code are seen, and what a step over a line gives.
-use Rattle.std.specs.Prelude.{◌≡◌, ℕ, ◌-◌, ◌<◌, ◌≤◌, List, [], ◌∷◌, ◌++◌, codes, map, length, take, drop, ⊤}
-use Rattle.lg_grammar.specs.Token.{Token, word, number, equals, plus, opening, closing, comma, text_of, IsToken, EndsBefore, Lexes}
-use Rattle.lg_grammar.specs.Tree.{Tree, StatementTree}
-use Rattle.lg_grammar.specs.Grammar.{SpellsTree, SpellsStatement}
+use Rattle.std.specs.Prelude.{◌≡◌, ℕ, ◌-◌, ◌<◌, ◌≤◌, List, [], ◌∷◌, ◌++◌, map, false, IsTrue, slice_index, length, take, drop, ⊤}
+use Rattle.std.specs.List.{AllByRecursion}
+use Rattle.lg_grammar.specs.Token.{Token, word, number, equals, plus, opening, closing, comma, is_blank, text_of, IsToken, EndsBefore, Lexes}
 use Rattle.lg_grammar.specs.declared.tokens.Token.{Token as Span}
 use Rattle.lg_grammar.specs.declared.tokens.TokenKind.{TokenKind}
 use Rattle.lg_grammar.specs.declared.tokens.TokenKind.TheVariants.{Word, Number, Equals, Plus, Opening, Closing, Comma}
@@ -31,9 +30,9 @@ token_of line t = token_from t.kind (take (t.end - t.start) (drop t.start line))
 abbrev pub tokens_of : List ℕ → List Span → List Token
 tokens_of line ts = map (token_of line) ts
 
--- the span is a part of the line
-abbrev pub IsInside : List ℕ → Span → Type 0
-IsInside line t = (t.start ≤ t.end) × (t.end ≤ length line)
+-- the span is a part of the line, and a token
+abbrev pub IsSpan : List ℕ → Span → Type 0
+IsSpan line t = (t.start ≤ t.end) × (t.end ≤ length line) × IsToken (token_of line t)
 
 -- the bytes begin with this token, and the rest stands after it
 pub record Takes (bytes : List ℕ) (t : Token) (rest : List ℕ) : Type 0 where
@@ -62,9 +61,23 @@ TakesNone bytes = (t : Token) (rest : List ℕ) → Takes bytes t rest → ⊥
 abbrev pub LexesNone : List ℕ → Type 0
 LexesNone line = (ts : List Token) → Lexes line ts → ⊥
 
+-- the line begins with these tokens, with blanks before, between and after them, and this rest stands behind
+abbrev pub Reaches : List ℕ → List Token → List ℕ → Type 0
+Reaches line [] rest = (blanks : List ℕ) × ((line ≡ blanks ++ rest) × AllByRecursion (λ b. IsTrue (is_blank b)) blanks)
+Reaches line (t ∷ ts) rest = (blanks : List ℕ) × (next : List ℕ)
+    × ((line ≡ blanks ++ (text_of t ++ next)) × AllByRecursion (λ b. IsTrue (is_blank b)) blanks × IsToken t × EndsBefore t next × Reaches next ts rest)
+
+-- behind tokens and blanks stands at this place no blank, and no token either
+pub record IsFault (line : List ℕ) (place : ℕ) : Type 0 where
+  pub front : List Token
+  pub reached : Reaches line front (drop place line)
+  pub inside : place < length line
+  pub solid : is_blank (slice_index line place) ≡ false
+  pub none : TakesNone (drop place line)
+
 -- what it says of a line that reading it ended so
 abbrev pub EndsLexing : List ℕ → LexEnd → Type 0
-EndsLexing line (Fault place) = LexesNone line
+EndsLexing line (Fault place) = LexesNone line × IsFault line place
 EndsLexing line NoMemory = ⊤
 
 -- the tokens from a place on
@@ -80,21 +93,3 @@ IsSign Plus = ⊤
 IsSign Opening = ⊤
 IsSign Closing = ⊤
 IsSign Comma = ⊤
-
--- the tokens of a full array
-abbrev pub full_tokens : ℕ → ℕ → List Token
-full_tokens n x = word (codes "full") ∷ opening ∷ number n ∷ comma ∷ number x ∷ closing ∷ []
-
--- the tokens from one place on spell this tree, and go on at the next
-pub record Finds (from next : List Token) (e : Tree) : Type 0 where
-  pub front : List Token
-  pub cut : from ≡ front ++ next
-  pub spelled : SpellsTree front e
-
--- no tokens in front spell a tree
-abbrev pub FindsNone : List Token → Type 0
-FindsNone from = (front rest : List Token) (e : Tree) → from ≡ front ++ rest → SpellsTree front e → ⊥
-
--- the tokens spell no statement
-abbrev pub SpellsNothing : List Token → Type 0
-SpellsNothing ts = (s : StatementTree) → SpellsStatement ts s → ⊥

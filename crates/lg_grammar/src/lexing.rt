@@ -3,7 +3,7 @@
 ghost use Rattle.std.specs.Prelude.{◌≡◌, ◌+◌, ◌<◌, ◌≤◌, ◌^◌, ℕ, [], length, drop, decimal, IfOk, IfErr, IfSome, IfNone, All};
 ghost use Rattle.std.specs.List.{prefix_len};
 ghost use Rattle.lg_grammar.specs.Token.{is_blank, is_letter, is_digit, is_word_byte, MAX_NUMBER, Lexes};
-ghost use Rattle.lg_grammar.specs.Reading.{tokens_of, IsInside, IsFirst, IsNext, TakesNone, EndsLexing};
+ghost use Rattle.lg_grammar.specs.Reading.{tokens_of, IsSpan, IsFirst, IsNext, TakesNone, EndsLexing};
 ghost use Rattle.lg_grammar.specs.Signs.{sign_at};
 
 use crate::tokens::{LexEnd, Token, TokenKind};
@@ -20,7 +20,7 @@ const GREATEST_NUMBER: u32 = 16_777_216;
 pub fn lex_line(alloc: Global, line: &[u8]) -> Result<Vec<Token>, LexEnd>
     requires { length line.now < 2 ^ 32 }
     ensures tokens { IfOk result (λ tokens. Lexes line.now (tokens_of line.now tokens.items)) }
-    ensures inside { IfOk result (λ tokens. All (IsInside line.now) tokens.items) }
+    ensures inside { IfOk result (λ tokens. All (IsSpan line.now) tokens.items) }
     ensures fault { IfErr result (EndsLexing line.now) }
 {
     let mut tokens = Vec::new(alloc);

@@ -7,6 +7,7 @@ mod places;
 mod scripts;
 mod tokens;
 mod trees;
+mod words;
 
 pub use lexing::lex_line;
 pub use scripts::{ScriptEnd, one_script, read_script};

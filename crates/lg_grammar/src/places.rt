@@ -1,17 +1,19 @@
 //! What stands at a place of a line's tokens.
 
 ghost use Rattle.std.specs.Prelude.{◌≡◌, ◌+◌, ◌<◌, ◌≤◌, ℕ, List, [], ◌∷◌, length, All, IfSome, IfNone};
-ghost use Rattle.lg_grammar.specs.Token.{word, number};
-ghost use Rattle.lg_grammar.specs.Reading.{token_from, token_of, left, IsInside, IsSign, Tokens};
+ghost use Rattle.lg_grammar.specs.Token.{word, number, IsWord};
+ghost use Rattle.lg_grammar.specs.Word.{IsName};
+ghost use Rattle.lg_grammar.specs.Reading.{token_from, token_of, left, IsSpan, IsSign, Tokens};
 
 use crate::tokens::{Token, TokenKind};
+use crate::words::is_reserved;
 use sqlite_items::at;
 
 /// The token at a place.
 fn token_at(tokens: &[Token], place: usize) -> Option<Token>
     ensures found { IfSome result (λ t. (line : List ℕ)
         → left line tokens.now place ≡ token_of line t ∷ left line tokens.now (place + 1)) }
-    ensures inside { IfSome result (λ t. (line : List ℕ) → All (IsInside line) tokens.now → IsInside line t) }
+    ensures inside { IfSome result (λ t. (line : List ℕ) → All (IsSpan line) tokens.now → IsSpan line t) }
     ensures within { IfSome result (λ t. place < length tokens.now) }
     ensures none { IfNone result ((line : List ℕ) → left line tokens.now place ≡ []) }
 {
@@ -20,9 +22,10 @@ fn token_at(tokens: &[Token], place: usize) -> Option<Token>
 
 /// The text of the word at a place.
 pub fn word_at<'a>(line: &'a [u8], tokens: &[Token], place: usize) -> Option<&'a [u8]>
-    requires { All (IsInside line.now) tokens.now }
+    requires { All (IsSpan line.now) tokens.now }
     ensures found { IfSome result (λ w.
         left line.now tokens.now place ≡ word w.now ∷ left line.now tokens.now (place + 1)) }
+    ensures whole { IfSome result (λ w. IsWord w.now) }
     ensures within { IfSome result (λ w. place < length tokens.now) }
     ensures none { IfNone result ((w : List ℕ) (rest : Tokens)
         → left line.now tokens.now place ≡ word w ∷ rest → ⊥) }
@@ -34,12 +37,26 @@ pub fn word_at<'a>(line: &'a [u8], tokens: &[Token], place: usize) -> Option<&'a
     }
 }
 
+/// The name at a place: a word that is not reserved.
+pub fn name_at<'a>(line: &'a [u8], tokens: &[Token], place: usize) -> Option<&'a [u8]>
+    requires { All (IsSpan line.now) tokens.now }
+    ensures found { IfSome result (λ w.
+        left line.now tokens.now place ≡ word w.now ∷ left line.now tokens.now (place + 1)) }
+    ensures name { IfSome result (λ w. IsName w.now) }
+    ensures within { IfSome result (λ w. place < length tokens.now) }
+    ensures none { IfNone result ((w : List ℕ) (rest : Tokens)
+        → left line.now tokens.now place ≡ word w ∷ rest → IsName w → ⊥) }
+{
+    let word = word_at(line, tokens, place)?;
+    if is_reserved(word) { None } else { Some(word) }
+}
+
 /// The place after this word, where it stands at the place.
 pub fn after_word(line: &[u8], tokens: &[Token], place: usize, text: &[u8]) -> Option<usize>
-    requires { All (IsInside line.now) tokens.now }
+    requires { All (IsSpan line.now) tokens.now }
     ensures found { IfSome result (λ next.
         left line.now tokens.now place ≡ word text.now ∷ left line.now tokens.now next) }
-    ensures within { IfSome result (λ next. next ≤ length tokens.now) }
+    ensures within { IfSome result (λ next. (place < next) × (next ≤ length tokens.now)) }
     ensures none { IfNone result ((rest : Tokens)
         → left line.now tokens.now place ≡ word text.now ∷ rest → ⊥) }
 {
@@ -52,7 +69,7 @@ pub fn after_sign(tokens: &[Token], place: usize, sign: TokenKind) -> Option<usi
     requires { IsSign sign }
     ensures found { IfSome result (λ next. (line : List ℕ)
         → left line tokens.now place ≡ token_from sign [] ∷ left line tokens.now next) }
-    ensures within { IfSome result (λ next. next ≤ length tokens.now) }
+    ensures within { IfSome result (λ next. (place < next) × (next ≤ length tokens.now)) }
     ensures none { IfNone result ((line : List ℕ) (rest : Tokens)
         → left line tokens.now place ≡ token_from sign [] ∷ rest → ⊥) }
 {

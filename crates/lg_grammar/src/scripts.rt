@@ -1,15 +1,16 @@
 //! From the bytes of a script to its statements.
 
-ghost use Rattle.std.specs.Prelude.{◌≡◌, ◌+◌, ◌<◌, ◌≤◌, ◌^◌, ◌∷◌, not, ◌==◌, ℕ, List, length, slice_range, IfOk, IfErr, OnOk};
+ghost use Rattle.std.specs.Prelude.{◌≡◌, ◌+◌, ◌<◌, ◌≤◌, ◌^◌, ◌∷◌, not, ◌==◌, ℕ, List, length, slice_range, sum_by, IfOk, IfErr, OnOk};
 ghost use Rattle.std.specs.Bool.{OnTrue, OnFalse};
 ghost use Rattle.std.specs.List.{prefix_len};
 ghost use Rattle.lg_grammar.specs.Script.{IsIndented, Spells};
+ghost use Rattle.lg_grammar.specs.Tree.{line_nodes};
 ghost use Rattle.lg_grammar.specs.View.{script_of};
 ghost use Rattle.lg_grammar.specs.Lines.{lines_view, lines_from, HoldsLine, EndsLine, AddsLine, EndsAdding};
 ghost use Rattle.lg_grammar.specs.Ends.{ScriptTree, SpellsNone, NamesFirstBad};
 
 use crate::lexing::{is_blank, lex_line};
-use crate::parsing::statement;
+use crate::parsing::{ParseEnd, statement};
 use crate::tokens::LexEnd;
 use crate::trees::{Line, Script, Statement};
 use sqlite_items::Items;
@@ -42,6 +43,7 @@ pub fn read_script(alloc: Global, bytes: &[u8]) -> Result<Script, ScriptEnd>
     requires { length bytes.now < 2 ^ 32 }
     ensures script { IfOk result (λ script. Spells bytes.now (script_of script)) }
     ensures only { IfOk result (λ script. (other : ScriptTree) → Spells bytes.now other → other ≡ script_of script) }
+    ensures small { IfOk result (λ script. sum_by line_nodes (script_of script) ≤ length bytes.now) }
     ensures none { IfErr result (SpellsNone bytes.now) }
     ensures first_bad { IfErr result (NamesFirstBad bytes.now) }
 {
@@ -121,9 +123,10 @@ fn read_line(alloc: Global, number: u64, line: &[u8]) -> Result<Option<Statement
     if starts_blank(line) {
         return Err(ScriptEnd::Syntax { line: number });
     }
-    match statement(line, &tokens) {
-        Some(statement) => Ok(Some(statement)),
-        None => Err(ScriptEnd::Syntax { line: number }),
+    match statement(alloc, line, &tokens) {
+        Ok(statement) => Ok(Some(statement)),
+        Err(ParseEnd::Syntax) => Err(ScriptEnd::Syntax { line: number }),
+        Err(ParseEnd::NoMemory) => Err(ScriptEnd::NoMemory),
     }
 }
 

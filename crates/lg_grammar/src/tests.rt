@@ -28,13 +28,14 @@ fn good_scripts(rt: HostRuntime) -> Result<(), Fail> {
     let alloc = rt.alloc();
     expect_lines(&rt, alloc, b"", &[])?;
     expect_lines(&rt, alloc, b"\t \n\n", &[])?;
-    expect_lines(&rt, alloc, b"print(full(3, 7))", &[1])?;
+    expect_lines(&rt, alloc, b"a = full(3, 7)\nprint(a + a)", &[1, 2])?;
     expect_lines(
         &rt,
         alloc,
-        b"\nprint(full(0, 16777216))\n\t\nprint\t( full(1,2) ) \n",
+        b"\nprint(full(0, 16777216))\n\t\n_b1\t=a+ full (1,2) \n",
         &[2, 4],
-    )
+    )?;
+    expect_lines(&rt, alloc, b"copy = full(1, 2)\nfulls = copy\n", &[1, 2])
 }
 
 #[test]
@@ -47,9 +48,39 @@ fn bad_scripts(rt: HostRuntime) {
     expect_bad(&rt, alloc, b"print(full(3,7)x)", 1);
     expect_bad(&rt, alloc, b"print(full(3, 7)) # c", 1);
     expect_bad(&rt, alloc, b"print(full(3, 7))\r\n", 1);
-    expect_bad(&rt, alloc, b"print(full(3, 7) + full(3, 7))", 1);
-    expect_bad(&rt, alloc, b"print(full(3, 7)))", 1);
-    expect_bad(&rt, alloc, b"printfull(3, 7)", 1);
+    expect_bad(&rt, alloc, b"print(a + 1)", 1);
+    expect_bad(&rt, alloc, b"a = b +", 1);
+    expect_bad(&rt, alloc, b"a = b c", 1);
+}
+
+#[test]
+fn reserved_words(rt: HostRuntime) {
+    let alloc = rt.alloc();
+    expect_bad(&rt, alloc, b"full = full(1, 2)", 1);
+    expect_bad(&rt, alloc, b"a = b\nsum = full(1, 2)", 2);
+    expect_bad(&rt, alloc, b"print(print)", 1);
+    expect_bad(&rt, alloc, b"lambda = a", 1);
+    expect_bad(&rt, alloc, b"a = uint8", 1);
+}
+
+/// Reads `print(a + .. + a)` with so many `+`.
+fn reads_sum(rt: &impl Abort, alloc: Global, count: usize) -> Result<bool, Fail> {
+    let mut text = Vec::new(alloc);
+    text.extend_from_slice(b"print(")?;
+    for _ in 0..count {
+        text.extend_from_slice(b"a + ")?;
+    }
+    text.extend_from_slice(b"a)")?;
+    assert!(rt; text.len() < 20_000);
+    Ok(read_script(alloc, &text).is_ok())
+}
+
+#[test]
+fn high_sums(rt: HostRuntime) -> Result<(), Fail> {
+    let alloc = rt.alloc();
+    assert!(rt; reads_sum(&rt, alloc, 200)?);
+    assert!(rt; !reads_sum(&rt, alloc, 201)?);
+    Ok(())
 }
 
 #[test]

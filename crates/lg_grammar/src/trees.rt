@@ -1,10 +1,12 @@
 //! Scripts as trees.
 
-use sqlite_items::Items;
+use sqlite_items::{Boxed, Items};
 
 /// An expression.
 #[derive(Debug, Drop)]
 pub enum Expr {
+    /// The value that a name is bound to.
+    Name(Items<u8>),
     /// `full(extent, value)`
     Full {
         /// How many items.
@@ -12,11 +14,20 @@ pub enum Expr {
         /// What each item is.
         value: u32,
     },
+    /// The sum of two values.
+    Add(Boxed<Expr>, Boxed<Expr>),
 }
 
 /// A statement.
 #[derive(Debug, Drop)]
 pub enum Statement {
+    /// `name = value`
+    Bind {
+        /// The name that is bound.
+        name: Items<u8>,
+        /// What it is bound to.
+        value: Expr,
+    },
     /// `print(value)`
     Print {
         /// What is printed.

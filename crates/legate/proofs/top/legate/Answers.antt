@@ -2,15 +2,26 @@ use Rattle.std.proofs.Common.{refl, sym, ap, lit<}
 use Rattle.legate.specs.declared.exit.Exit.{Exit}
 use Rattle.legate.proofs.top.legate.Goals as goal
 
-pub returns-then-not-is_run_command-clause-statuses :
-    goal.returns-then-not-is_run_command-clause-statuses
+pub returns-then-not-is_run_command-clause-statuses : goal.returns-then-not-is_run_command-clause-statuses
 returns-then-not-is_run_command-clause-statuses g c = (1, lit< tt, sym (ap (λ (e : Exit). e.status) c.stop.ensures.exit))
+
+pub returns-in-Err-ReadFault-clause-statuses : goal.returns-in-Err-ReadFault-clause-statuses
+returns-in-Err-ReadFault-clause-statuses g c = (5, lit< tt, sym (ap (λ (e : Exit). e.status) c.stop-in-Err-ReadFault.ensures.exit))
+
+pub returns-in-Err-TooLong-clause-statuses : goal.returns-in-Err-TooLong-clause-statuses
+returns-in-Err-TooLong-clause-statuses g c = (4, lit< tt, sym (ap (λ (e : Exit). e.status) c.stop-in-Err-TooLong.ensures.exit))
+
+pub returns-in-Err-Syntax-clause-statuses : goal.returns-in-Err-Syntax-clause-statuses
+returns-in-Err-Syntax-clause-statuses g c = (2, lit< tt, refl)
 
 pub returns-in-Err-Syntax-clause-syntax : goal.returns-in-Err-Syntax-clause-syntax
 returns-in-Err-Syntax-clause-syntax g c = λ _. rw c.in-Err-Syntax.line-is ((rw c.in-Err-Syntax.field-0-is at c.in-Err-Syntax.ensures.syntax) c.in-Err-Syntax.line refl)
 
+pub returns-in-Err-Fault-clause-statuses : goal.returns-in-Err-Fault-clause-statuses
+returns-in-Err-Fault-clause-statuses g c = (3, lit< tt, refl)
+
 pub returns-in-Err-WriteFault-clause-statuses : goal.returns-in-Err-WriteFault-clause-statuses
-returns-in-Err-WriteFault-clause-statuses g c = (5, lit< tt, sym (ap (λ (e : Exit). e.status) c.stop-in-Err-WriteFault.ensures.exit))
+returns-in-Err-WriteFault-clause-statuses g c = (6, lit< tt, sym (ap (λ (e : Exit). e.status) c.stop-in-Err-WriteFault.ensures.exit))
 
 pub returns-clause-statuses : goal.returns-clause-statuses
-returns-clause-statuses g c = (6, lit< tt, sym (ap (λ (e : Exit). e.status) c.stop-in-Err-NoMemory-run_script.ensures.exit))
+returns-clause-statuses g c = (7, lit< tt, sym (ap (λ (e : Exit). e.status) c.stop-in-Err-NoMemory-run_script.ensures.exit))

@@ -1,10 +1,7 @@
-use Rattle.std.proofs.Common.{◌<◌, Option, None, Some, IfNone, arith, sym, ◌∙◌}
+use Rattle.std.proofs.Common.{◌<◌, arith, sym, ◌∙◌}
+use Rattle.lg_grammar.proofs.ResultLemmas.{if_none}
 use Rattle.lg_grammar.proofs.TokenLemmas.{no_sign, no_number, first_word, first_number}
 use Rattle.lg_grammar.proofs.lexing.first_token.Goals as goal
-
-if_none : {X : Type 0} (o : Option X) (P : Type 0) → P → IfNone o P
-if_none None P p = p
-if_none (Some x) P p = tt
 
 pub returns-in_err-sign_of-clause-none : goal.returns-in_err-sign_of-clause-none
 returns-in_err-sign_of-clause-none c =

@@ -1,6 +1,7 @@
-use Rattle.std.proofs.Common.{◌≡◌, ◌++◌, ◌∷◌, [], not, sym, ap, ◌∙◌, arith}
+use Rattle.std.proofs.Common.{◌≡◌, ◌++◌, ◌∷◌, [], not, sym, ap, ◌∙◌, arith, false, get_or}
 use Rattle.std.proofs.lemmas.Bool.{cond-true}
-use Rattle.lg_grammar.proofs.LexLemmas.{lexed_blank, lexed_never, lexed_end, lexed_push, inside_push}
+use Rattle.lg_grammar.specs.Token.{is_blank}
+use Rattle.lg_grammar.proofs.LexLemmas.{lexed_blank, lexed_fault, lexed_never, lexed_end, lexed_push, inside_push}
 use Rattle.lg_grammar.proofs.lexing.lex_line.Goals as goal
 
 pub loop-place-preserved-then-is_blank : goal.loop-place-preserved-then-is_blank
@@ -12,7 +13,8 @@ loop-place-preserved-then-is_blank c = record {
 
 pub returns-in_default-clause-fault : goal.returns-in_default-clause-fault
 returns-in_default-clause-fault c =
-    lexed_never c.args.line.now c.loop-place.place _ c.loop-place-test.true (sym c.is_blank.ensures ∙ c.if-is_blank.false) c.in_default.ensures.none c.loop-place.invariant.lexed
+    let solid : is_blank (get_or c.args.line.now c.loop-place.place 0) ≡ false = sym c.is_blank.ensures ∙ c.if-is_blank.false in
+    (lexed_never c.args.line.now c.loop-place.place _ c.loop-place-test.true solid c.in_default.ensures.none c.loop-place.invariant.lexed, lexed_fault c.args.line.now c.loop-place.place _ c.loop-place-test.true solid c.in_default.ensures.none c.loop-place.invariant.lexed)
 
 pub loop-place-preserved : goal.loop-place-preserved
 loop-place-preserved c =

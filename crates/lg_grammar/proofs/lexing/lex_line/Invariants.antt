@@ -1,5 +1,5 @@
 use Rattle.std.proofs.Common.{◌-◌, ◌≤◌, length, All}
-use Rattle.lg_grammar.specs.Reading.{tokens_of, IsInside}
+use Rattle.lg_grammar.specs.Reading.{tokens_of, IsSpan}
 use Rattle.lg_grammar.proofs.LexLemmas.{LexedSoFar}
 use Rattle.lg_grammar.proofs.lexing.lex_line.Given as goal
 
@@ -7,7 +7,7 @@ use Rattle.lg_grammar.proofs.lexing.lex_line.Given as goal
 abbrev pub invariant-loop-place : goal.invariant-loop-place
 invariant-loop-place l = record {
   within : l.place ≤ length l.line;
-  inside : All (IsInside l.line) l.tokens.items;
+  inside : All (IsSpan l.line) l.tokens.items;
   lexed : LexedSoFar l.line l.place (tokens_of l.line l.tokens.items);
 }
 

@@ -1,6 +1,7 @@
 use Rattle.std.proofs.Common.{◌≤◌, length, refl, arith}
 use Rattle.lg_grammar.specs.Lines.{EndsAdding, lines_view}
-use Rattle.lg_grammar.proofs.EndLemmas.{err_end, ends_adding, full_adding}
+use Rattle.lg_grammar.proofs.ResultLemmas.{err_end}
+use Rattle.lg_grammar.proofs.EndLemmas.{ends_adding, full_adding}
 use Rattle.lg_grammar.proofs.scripts.add_line.Goals as goal
 
 pub returns-in_err-statement-clause-end : goal.returns-in_err-statement-clause-end

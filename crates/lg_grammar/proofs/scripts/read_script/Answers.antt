@@ -1,6 +1,10 @@
-use Rattle.std.proofs.Common.{arith}
+use Rattle.std.proofs.Common.{◌≡◌, [], length, arith}
+use Rattle.std.proofs.lemmas.Bool.{cond-false, lt-leb}
+use Rattle.lg_grammar.specs.Lines.{lines_view, lines_from}
 use Rattle.lg_grammar.specs.Ends.{SpellsNone, NamesFirstBad}
-use Rattle.lg_grammar.proofs.EndLemmas.{err_end, read_more, read_none, read_bad}
+use Rattle.lg_grammar.proofs.SizeLemmas.{script_small}
+use Rattle.lg_grammar.proofs.ResultLemmas.{err_end}
+use Rattle.lg_grammar.proofs.EndLemmas.{read_whole, read_more, read_none, read_bad}
 use Rattle.lg_grammar.proofs.scripts.read_script.Goals as goal
 
 pub returns-in_err-add_line-clause-none : goal.returns-in_err-add_line-clause-none
@@ -20,3 +24,8 @@ loop-start-preserved c =
       few = added.few;
       read = added.read;
     }
+
+pub returns-clause-small : goal.returns-clause-small
+returns-clause-small c =
+    let none : lines_from c.args.bytes.now c.loop-start.start ≡ [] = cond-false _ _ _ (lt-leb c.loop-start.start (length c.args.bytes.now) c.loop-start-test.false) in
+    script_small c.args.bytes.now (lines_view c.loop-start.lines) (read_whole c.args.bytes.now _ _ (lines_view c.loop-start.lines) none c.loop-start.invariant.few c.loop-start.invariant.read)
