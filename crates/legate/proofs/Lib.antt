@@ -1,6 +1,7 @@
 pub mod Printing
 pub mod Runs
 pub mod WordLemmas
+pub mod StatusLemmas
 pub mod NameLemmas
 pub mod Broadcasts
 pub mod Values

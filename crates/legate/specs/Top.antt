@@ -3,6 +3,7 @@ use Rattle.std.specs.Prelude.{◌≡◌, ℕ, List, [], ◌∷◌, map, Option, 
 use Rattle.lg_outside.specs.Outside.{AppendsPart}
 use Rattle.lg_grammar.specs.Tree.{LineTree}
 use Rattle.lg_grammar.specs.Script.{Spells}
+use Rattle.lg_meaning.specs.declared.fault.FaultKind.{FaultKind}
 use Rattle.lg_meaning.specs.Run.{End, done, fault_at, run}
 use Rattle.legate.specs.Running.{Ends, PrintsFirst}
 use Rattle.legate.specs.declared.exit.Exit.{Exit}
@@ -37,7 +38,15 @@ pub record StopsBetween (bytes : List ℕ) (old new : Option (List ℕ)) : Type 
   pub spelled : Spells bytes script
   pub printed : PrintsFirst script old new
 
--- the status says how the script ends
+-- the bytes spell a script that ends with a fault
+pub record HasFault (bytes : List ℕ) : Type 0 where
+  pub script : List LineTree
+  pub spelled : Spells bytes script
+  pub line : ℕ
+  pub kind : FaultKind
+  pub ended : (run script).end ≡ fault_at line kind
+
+-- the answer says how the script ends
 abbrev pub EndsAs : Exit → End → Type 0
 EndsAs exit done = exit.status ≡ DONE
 EndsAs exit (fault_at line kind) = (exit.status ≡ FAULT) × (exit.line ≡ line) × (exit.kind ≡ Some kind)

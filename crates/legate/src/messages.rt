@@ -1,6 +1,7 @@
 ghost use Rattle.std.specs.Prelude.{◌≤◌};
 
 use itoa::Buffer;
+use lg_meaning::FaultKind;
 use lg_outside::{Sink, WriteFault, write_all};
 
 /// The message of a run that ended otherwise than done, one line in all.
@@ -11,6 +12,22 @@ pub enum Message<'a> {
 
     /// A message about this line of the script.
     AtLine(u64, &'a [u8]),
+}
+
+/// What a message says of a kind of fault. This project's own.
+pub fn fault_text(kind: FaultKind) -> &'static [u8] {
+    match kind {
+        FaultKind::Name => b"name",
+        FaultKind::TypeKind => b"type",
+        FaultKind::Range => b"range",
+        FaultKind::Shape => b"shape",
+        FaultKind::Index => b"index",
+        FaultKind::Step => b"step",
+        FaultKind::Divisor => b"zero divisor",
+        FaultKind::Power => b"power",
+        FaultKind::ReadOnly => b"read-only",
+        FaultKind::Limit => b"limit",
+    }
 }
 
 /// Writes the message's line. A log that fails keeps the front that it took: there is nowhere else to say so.

@@ -1,6 +1,7 @@
 //! Whole calls over streams in memory, with what each must answer, print and log.
 use crate::exit::{DONE, FAULT, READ_FAULT, SYNTAX, TOO_LONG, USAGE, WRITE_FAULT};
 use crate::legate;
+use crate::messages::fault_text;
 use lg_meaning::FaultKind;
 use lg_outside::{MemorySink, MemorySource};
 use std::alloc::{AllocError, Global};
@@ -234,6 +235,64 @@ fn streams_and_words_fail(rt: HostRuntime) -> Result<(), Fail> {
         try_row(&rt, rt.alloc(), row)?;
     }
     Ok(())
+}
+
+// The source fails at each call in turn: it ends with a read fault before any print.
+#[test]
+fn each_read_fails_in_turn(rt: HostRuntime) -> Result<(), Fail> {
+    let alloc = rt.alloc();
+    let script = b"a = full(3, 7)\nprint(a + a)\nprint(full(1, 5))";
+    // Eight bytes in a call make six calls, and one more finds the end.
+    for failing in 1..8u64 {
+        let words = vec![in alloc; String::from_str(alloc, "run")?]?;
+        let failing = vec![in alloc; failing]?;
+        let mut source = MemorySource::new(script.to_vec(alloc)?, 8, failing);
+        let mut out = MemorySink::new(alloc, 64, Vec::new(alloc))?;
+        let mut log = MemorySink::new(alloc, 64, Vec::new(alloc))?;
+        let exit = legate(alloc, &words, &mut source, &mut out, &mut log);
+        assert_eq!(rt; exit.status, READ_FAULT);
+        assert_eq!(rt; out.bytes(), b"".as_slice());
+        assert_eq!(rt; log.bytes(), b"read fault\n".as_slice());
+    }
+    Ok(())
+}
+
+// The output has room for each number of bytes in turn: it keeps just that front of the text.
+#[test]
+fn each_room_is_filled(rt: HostRuntime) -> Result<(), Fail> {
+    let alloc = rt.alloc();
+    let script = b"a = full(3, 7)\nprint(a + a)\nprint(full(1, 5))\nprint(zz)";
+    let text = b"[14, 14, 14]\n[5]\n".as_slice();
+    for room in 0..text.len() {
+        let words = vec![in alloc; String::from_str(alloc, "run")?]?;
+        let mut source = MemorySource::new(script.to_vec(alloc)?, 8, Vec::new(alloc));
+        let mut out = MemorySink::new(alloc, room, Vec::new(alloc))?;
+        // A log that fails changes nothing.
+        let mut log = MemorySink::new(alloc, 5, Vec::new(alloc))?;
+        let exit = legate(alloc, &words, &mut source, &mut out, &mut log);
+        assert_eq!(rt; exit.status, WRITE_FAULT);
+        assert_eq!(rt; out.bytes(), &text[..room]);
+        assert_eq!(rt; log.bytes(), b"write".as_slice());
+    }
+    Ok(())
+}
+
+#[test]
+fn faults_have_their_texts(rt: HostRuntime) {
+    for (kind, text) in [
+        (FaultKind::Name, b"name".as_slice()),
+        (FaultKind::TypeKind, b"type"),
+        (FaultKind::Range, b"range"),
+        (FaultKind::Shape, b"shape"),
+        (FaultKind::Index, b"index"),
+        (FaultKind::Step, b"step"),
+        (FaultKind::Divisor, b"zero divisor"),
+        (FaultKind::Power, b"power"),
+        (FaultKind::ReadOnly, b"read-only"),
+        (FaultKind::Limit, b"limit"),
+    ] {
+        assert_eq!(rt; fault_text(kind), text);
+    }
 }
 
 #[test]

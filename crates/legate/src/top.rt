@@ -4,13 +4,12 @@ ghost use Rattle.lg_grammar.specs.Tree.{LineTree};
 ghost use Rattle.lg_grammar.specs.Script.{Spells, IsFirstBad};
 ghost use Rattle.lg_meaning.specs.Run.{done, fault_at, run};
 ghost use Rattle.lg_meaning.specs.declared.fault.FaultKind.{FaultKind};
-ghost use Rattle.legate.specs.Top.{IsRunCommand, SpellsNone, Finishes, StopsWithin, StopsBetween, EndsAs};
+ghost use Rattle.legate.specs.Top.{IsRunCommand, SpellsNone, Finishes, StopsWithin, StopsBetween, HasFault, EndsAs};
 
 use crate::exit::{DONE, Exit, FAULT, NO_MEMORY, READ_FAULT, SYNTAX, TOO_LONG, USAGE, WRITE_FAULT};
 use crate::loading::{LoadStop, MAX_SCRIPT_BYTES, load};
-use crate::messages::{Message, write_message};
+use crate::messages::{Message, fault_text, write_message};
 use crate::running::{RunStop, run_script};
-use lg_meaning::FaultKind;
 use lg_outside::{Sink, Source};
 use std::alloc::Global;
 
@@ -49,6 +48,21 @@ pub fn legate<S: Source, K: Sink, L: Sink>(
     // Syntax: the bytes spell no script, and the line is the first bad one.
     ensures syntax { result.status ≡ SYNTAX → IfSome (S.left source.old) (λ bytes.
         SpellsNone bytes × IsFirstBad bytes result.line) }
+
+    // Wherever memory was found, syntax is the answer exactly where none of the three before it is and the bytes spell no
+    // script, and a fault is the answer exactly where none before it is, the script ends with one and the output did not
+    // fail.
+    ensures syntax_exactly { IfSome (S.left source.old) (λ bytes. result.status ≢ NO_MEMORY → ((result.status ≡ SYNTAX)
+        ↔ ((result.status ≢ USAGE) × (result.status ≢ READ_FAULT) × (result.status ≢ TOO_LONG) × SpellsNone bytes))) }
+    ensures fault_exactly { IfSome (S.left source.old) (λ bytes. result.status ≢ NO_MEMORY → ((result.status ≡ FAULT)
+        ↔ ((result.status ≢ USAGE) × (result.status ≢ READ_FAULT) × (result.status ≢ TOO_LONG) × (result.status ≢ SYNTAX)
+        × (result.status ≢ WRITE_FAULT) × HasFault bytes))) }
+
+    // A script of the right length is run to its end, or to its first fault, unless a stream fails or memory lacks.
+    ensures completes { IfSome (S.left source.old) (λ bytes. (script : List LineTree) → Spells bytes script
+        → IsRunCommand words.now → length bytes ≤ MAX_SCRIPT_BYTES
+        → (¬ Rose (S.faults source.old) (S.faults source.new)) → (¬ Rose (K.faults out.old) (K.faults out.new))
+        → result.status ≢ NO_MEMORY → EndsAs result (run script).end) }
 
     // What the output holds where the run did not come to its end.
     ensures part { result.status ≡ WRITE_FAULT → IfSome (S.left source.old) (λ bytes.
@@ -90,7 +104,7 @@ pub fn legate<S: Source, K: Sink, L: Sink>(
             kind: None,
         },
         Err(RunStop::Fault { line, kind }) => {
-            write_message(log, Message::AtLine(line, kind_text(kind)));
+            write_message(log, Message::AtLine(line, fault_text(kind)));
             Exit {
                 status: FAULT,
                 line,
@@ -112,22 +126,6 @@ fn stop<L: Sink>(log: &mut L, status: u8, message: &[u8]) -> Exit
         status,
         line: 0,
         kind: None,
-    }
-}
-
-// What a message says of a kind of fault.
-fn kind_text(kind: FaultKind) -> &'static [u8] {
-    match kind {
-        FaultKind::Name => b"name",
-        FaultKind::TypeKind => b"type",
-        FaultKind::Range => b"range",
-        FaultKind::Shape => b"shape",
-        FaultKind::Index => b"index",
-        FaultKind::Step => b"step",
-        FaultKind::Divisor => b"zero divisor",
-        FaultKind::Power => b"power",
-        FaultKind::ReadOnly => b"read-only",
-        FaultKind::Limit => b"limit",
     }
 }
 

@@ -1,6 +1,11 @@
 //! What a script means: the definitions that every other way of running it is held to, and the faults that a statement can have.
 #![tactic(auto)]
 
+mod examples;
 mod fault;
 
+pub use examples::{
+    broadcasting_by_example, places_by_example, runs_by_example, texts_by_example,
+    wrapping_by_example,
+};
 pub use fault::FaultKind;

@@ -1,5 +1,6 @@
 use Rattle.std.proofs.Common.{refl, sym, ap, lit<}
 use Rattle.legate.specs.declared.exit.Exit.{Exit}
+use Rattle.legate.proofs.StatusLemmas.{syntax_holds, none_completes}
 use Rattle.legate.proofs.top.legate.Goals as goal
 
 pub returns-then-not-is_run_command-clause-statuses : goal.returns-then-not-is_run_command-clause-statuses
@@ -16,6 +17,14 @@ returns-in-Err-Syntax-clause-statuses g c = (2, lit< tt, refl)
 
 pub returns-in-Err-Syntax-clause-syntax : goal.returns-in-Err-Syntax-clause-syntax
 returns-in-Err-Syntax-clause-syntax g c = λ _. rw c.in-Err-Syntax.line-is ((rw c.in-Err-Syntax.field-0-is at c.in-Err-Syntax.ensures.syntax) c.in-Err-Syntax.line refl)
+
+pub returns-in-Err-Syntax-clause-syntax_exactly : goal.returns-in-Err-Syntax-clause-syntax_exactly
+returns-in-Err-Syntax-clause-syntax_exactly g c =
+    syntax_holds _ c.in-Err-Syntax.line ((rw c.in-Err-Syntax.field-0-is at c.in-Err-Syntax.ensures.syntax) c.in-Err-Syntax.line refl)
+
+pub returns-in-Err-Syntax-clause-completes : goal.returns-in-Err-Syntax-clause-completes
+returns-in-Err-Syntax-clause-completes g c =
+    none_completes _ c.in-Err-Syntax.line _ _ _ _ _ _ ((rw c.in-Err-Syntax.field-0-is at c.in-Err-Syntax.ensures.syntax) c.in-Err-Syntax.line refl)
 
 pub returns-in-Err-Fault-clause-statuses : goal.returns-in-Err-Fault-clause-statuses
 returns-in-Err-Fault-clause-statuses g c = (3, lit< tt, refl)

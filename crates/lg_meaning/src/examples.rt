@@ -1,0 +1,57 @@
+//! Worked examples of the definitions. Each clause is computed by the check, so a definition that says something else is
+//! refused. The values are NumPy's and Python's.
+ghost use Rattle.std.specs.Prelude.{◌≡◌, [], ◌∷◌, codes, pos, negsuc, None, Some};
+ghost use Rattle.lg_elem.specs.declared.dtype.DType.TheVariants.{Bool, Int8, Int64, UInt8};
+ghost use Rattle.lg_elem.specs.Types.{wrap};
+ghost use Rattle.lg_grammar.specs.Tree.{full, add, print};
+ghost use Rattle.lg_meaning.specs.declared.fault.FaultKind.TheVariants.{Shape};
+ghost use Rattle.lg_meaning.specs.Shape.{places, place_of, broadcast, joined_shape};
+ghost use Rattle.lg_meaning.specs.Text.{printed};
+ghost use Rattle.lg_meaning.specs.Run.{run, done, fault_at};
+
+/// Indices in row-major order, and their places.
+pub fn places_by_example()
+    ensures two_axes { places (2 ∷ 2 ∷ []) ≡ (0 ∷ 0 ∷ []) ∷ (0 ∷ 1 ∷ []) ∷ (1 ∷ 0 ∷ []) ∷ (1 ∷ 1 ∷ []) ∷ [] }
+    ensures no_axes { places [] ≡ [] ∷ [] }
+    ensures none { places (2 ∷ 0 ∷ []) ≡ [] }
+    ensures place { place_of (2 ∷ 3 ∷ 4 ∷ []) (1 ∷ 2 ∷ 3 ∷ []) ≡ 23 }
+{}
+
+/// Which shapes go together, and what they make of a value.
+pub fn broadcasting_by_example()
+    ensures joined { joined_shape (8 ∷ 1 ∷ 6 ∷ 1 ∷ []) (7 ∷ 1 ∷ 5 ∷ []) ≡ Some (8 ∷ 7 ∷ 6 ∷ 5 ∷ []) }
+    ensures apart { joined_shape (2 ∷ 1 ∷ []) (8 ∷ 4 ∷ 3 ∷ []) ≡ None }
+    ensures scalar { joined_shape [] (3 ∷ []) ≡ Some (3 ∷ []) }
+    ensures empty { joined_shape (1 ∷ []) (0 ∷ []) ≡ Some (0 ∷ []) }
+    ensures column { broadcast (2 ∷ 1 ∷ []) (pos 1 ∷ pos 2 ∷ []) (2 ∷ 3 ∷ [])
+        ≡ pos 1 ∷ pos 1 ∷ pos 1 ∷ pos 2 ∷ pos 2 ∷ pos 2 ∷ [] }
+    ensures row { broadcast (3 ∷ []) (pos 1 ∷ pos 2 ∷ pos 3 ∷ []) (2 ∷ 3 ∷ [])
+        ≡ pos 1 ∷ pos 2 ∷ pos 3 ∷ pos 1 ∷ pos 2 ∷ pos 3 ∷ [] }
+    ensures one { broadcast [] (pos 7 ∷ []) (2 ∷ []) ≡ pos 7 ∷ pos 7 ∷ [] }
+{}
+
+/// Numbers that don't fit their type.
+pub fn wrapping_by_example()
+    ensures below { wrap Int8 (pos 200) ≡ negsuc 55 }
+    ensures least { wrap Int8 (pos 128) ≡ negsuc 127 }
+    ensures fits { wrap Int8 (negsuc 127) ≡ negsuc 127 }
+    ensures above { wrap UInt8 (negsuc 0) ≡ pos 255 }
+    ensures end { wrap Int64 (pos 9223372036854775808) ≡ negsuc 9223372036854775807 }
+    ensures truth { wrap Bool (negsuc 4) ≡ pos 1 }
+{}
+
+/// Printed lists.
+pub fn texts_by_example()
+    ensures nested { printed (2 ∷ 2 ∷ []) (pos 1 ∷ negsuc 1 ∷ pos 3 ∷ pos 40 ∷ []) ≡ codes "[[1, -2], [3, 40]]\n" }
+    ensures empty_rows { printed (2 ∷ 0 ∷ []) [] ≡ codes "[[], []]\n" }
+    ensures no_rows { printed (0 ∷ 2 ∷ []) [] ≡ codes "[]\n" }
+    ensures number { printed [] (negsuc 6 ∷ []) ≡ codes "-7\n" }
+{}
+
+/// A whole run: what is printed before the first fault, and that fault with its line.
+pub fn runs_by_example()
+    ensures sums { run (record { number = 1; statement = print (add (full 3 7) (full 1 7)) } ∷ [])
+        ≡ record { text = codes "[14, 14, 14]\n"; end = done } }
+    ensures stops { run (record { number = 2; statement = print (full 1 5) } ∷ record { number = 4; statement = print (add (full 2 1) (full 3 1)) }
+        ∷ record { number = 5; statement = print (full 1 6) } ∷ []) ≡ record { text = codes "[5]\n"; end = fault_at 4 Shape } }
+{}
