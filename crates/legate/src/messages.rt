@@ -1,21 +1,16 @@
-ghost use Rattle.std.specs.Prelude.{◌≤◌};
+ghost use Rattle.std.specs.Prelude.{◌≡◌, ◌≤◌, OnOk, OnErr};
+ghost use Rattle.std.specs.Io.KnownBytes.{Appends};
+ghost use Rattle.lg_outside.specs.Outside.{AppendsPart, Rose};
+ghost use Rattle.legate.specs.Messages.{text_of, as_line, at_line};
 
 use itoa::Buffer;
 use lg_meaning::FaultKind;
 use lg_outside::{Sink, WriteFault, write_all};
 
-/// The message of a run that ended otherwise than done, one line in all.
-#[derive(Clone, Copy, Debug)]
-pub enum Message<'a> {
-    /// A message that names no line of the script.
-    Plain(&'a [u8]),
-
-    /// A message about this line of the script.
-    AtLine(u64, &'a [u8]),
-}
-
 /// What a message says of a kind of fault. This project's own.
-pub fn fault_text(kind: FaultKind) -> &'static [u8] {
+pub fn fault_text(kind: FaultKind) -> &'static [u8]
+    ensures { result.now ≡ text_of kind }
+{
     match kind {
         FaultKind::Name => b"name",
         FaultKind::TypeKind => b"type",
@@ -30,29 +25,41 @@ pub fn fault_text(kind: FaultKind) -> &'static [u8] {
     }
 }
 
-/// Writes the message's line. A log that fails keeps the front that it took: there is nowhere else to say so.
-pub fn write_message<L: Sink>(log: &mut L, message: Message<'_>)
-    ensures { L.faults log.old ≤ L.faults log.new }
+/// Writes a text as a line of its own. It takes no memory.
+pub fn write_line<L: Sink>(log: &mut L, text: &[u8]) -> Result<(), WriteFault>
+    ensures whole { OnOk result (Appends (L.written log.old) (L.written log.new) (as_line text.now)) }
+    ensures part { OnErr result (AppendsPart (L.written log.old) (L.written log.new) (as_line text.now)) }
+    ensures fault { OnErr result (Rose (L.faults log.old) (L.faults log.new)) }
+    ensures later { L.faults log.old ≤ L.faults log.new }
 {
-    let _ = match message {
-        Message::Plain(text) => write_text(log, text),
-        Message::AtLine(line, text) => write_line_text(log, line, text),
+    let Ok(()) = write_all(log, text) else {
+        return Err(WriteFault);
     };
+    let Ok(()) = write_all(log, b"\n") else {
+        return Err(WriteFault);
+    };
+    Ok(())
 }
 
-fn write_text<L: Sink>(log: &mut L, text: &[u8]) -> Result<(), WriteFault>
-    ensures { L.faults log.old ≤ L.faults log.new }
-{
-    write_all(log, text)?;
-    write_all(log, b"\n")
-}
-
-fn write_line_text<L: Sink>(log: &mut L, line: u64, text: &[u8]) -> Result<(), WriteFault>
-    ensures { L.faults log.old ≤ L.faults log.new }
+/// Writes a text about a line of the script as a line of its own. It takes no memory.
+pub fn write_at_line<L: Sink>(log: &mut L, line: u64, text: &[u8]) -> Result<(), WriteFault>
+    ensures whole { OnOk result (Appends (L.written log.old) (L.written log.new) (at_line line text.now)) }
+    ensures part { OnErr result (AppendsPart (L.written log.old) (L.written log.new) (at_line line text.now)) }
+    ensures fault { OnErr result (Rose (L.faults log.old) (L.faults log.new)) }
+    ensures later { L.faults log.old ≤ L.faults log.new }
 {
     let mut digits = Buffer::new();
-    write_all(log, b"line ")?;
-    write_all(log, digits.format(line).as_bytes())?;
-    write_all(log, b": ")?;
-    write_text(log, text)
+    let Ok(()) = write_all(log, b"line ") else {
+        return Err(WriteFault);
+    };
+    let Ok(()) = write_all(log, digits.format(line).as_bytes()) else {
+        return Err(WriteFault);
+    };
+    let Ok(()) = write_all(log, b": ") else {
+        return Err(WriteFault);
+    };
+    let Ok(()) = write_line(log, text) else {
+        return Err(WriteFault);
+    };
+    Ok(())
 }

@@ -1,7 +1,6 @@
 //! Whole calls over streams in memory, with what each must answer, print and log.
 use crate::exit::{DONE, FAULT, READ_FAULT, SYNTAX, TOO_LONG, USAGE, WRITE_FAULT};
 use crate::legate;
-use crate::messages::fault_text;
 use lg_meaning::FaultKind;
 use lg_outside::{MemorySink, MemorySource};
 use std::alloc::{AllocError, Global};
@@ -275,24 +274,6 @@ fn each_room_is_filled(rt: HostRuntime) -> Result<(), Fail> {
         assert_eq!(rt; log.bytes(), b"write".as_slice());
     }
     Ok(())
-}
-
-#[test]
-fn faults_have_their_texts(rt: HostRuntime) {
-    for (kind, text) in [
-        (FaultKind::Name, b"name".as_slice()),
-        (FaultKind::TypeKind, b"type"),
-        (FaultKind::Range, b"range"),
-        (FaultKind::Shape, b"shape"),
-        (FaultKind::Index, b"index"),
-        (FaultKind::Step, b"step"),
-        (FaultKind::Divisor, b"zero divisor"),
-        (FaultKind::Power, b"power"),
-        (FaultKind::ReadOnly, b"read-only"),
-        (FaultKind::Limit, b"limit"),
-    ] {
-        assert_eq!(rt; fault_text(kind), text);
-    }
 }
 
 #[test]

@@ -4,11 +4,12 @@ ghost use Rattle.lg_grammar.specs.Tree.{LineTree};
 ghost use Rattle.lg_grammar.specs.Script.{Spells, IsFirstBad};
 ghost use Rattle.lg_meaning.specs.Run.{done, fault_at, run};
 ghost use Rattle.lg_meaning.specs.declared.fault.FaultKind.{FaultKind};
+ghost use Rattle.legate.specs.Messages.{Logs, as_line, message_of};
 ghost use Rattle.legate.specs.Top.{IsRunCommand, SpellsNone, Finishes, StopsWithin, StopsBetween, HasFault, EndsAs};
 
 use crate::exit::{DONE, Exit, FAULT, NO_MEMORY, READ_FAULT, SYNTAX, TOO_LONG, USAGE, WRITE_FAULT};
 use crate::loading::{LoadStop, MAX_SCRIPT_BYTES, load};
-use crate::messages::{Message, fault_text, write_message};
+use crate::messages::{fault_text, write_at_line, write_line};
 use crate::running::{RunStop, run_script};
 use lg_outside::{Sink, Source};
 use std::alloc::Global;
@@ -75,6 +76,9 @@ pub fn legate<S: Source, K: Sink, L: Sink>(
     ensures line { result.status ≢ SYNTAX → result.status ≢ FAULT → result.line ≡ 0 }
     ensures kind { IsSome result.kind ↔ (result.status ≡ FAULT) }
 
+    // The log gains the message line, or a part of it where its count of faults rose.
+    ensures message { Logs (L.faults log.old) (L.faults log.new) (L.written log.old) (L.written log.new) (message_of result) }
+
     // The counts never fall.
     ensures source_later { S.faults source.old ≤ S.faults source.new }
     ensures out_later { K.faults out.old ≤ K.faults out.new }
@@ -88,7 +92,7 @@ pub fn legate<S: Source, K: Sink, L: Sink>(
         Err(LoadStop::ReadFault) => return stop(log, READ_FAULT, b"read fault"),
         Err(LoadStop::TooLong) => return stop(log, TOO_LONG, b"script too long"),
         Err(LoadStop::Syntax { line }) => {
-            write_message(log, Message::AtLine(line, b"syntax"));
+            let _ = write_at_line(log, line, b"syntax");
             return Exit {
                 status: SYNTAX,
                 line,
@@ -104,7 +108,7 @@ pub fn legate<S: Source, K: Sink, L: Sink>(
             kind: None,
         },
         Err(RunStop::Fault { line, kind }) => {
-            write_message(log, Message::AtLine(line, fault_text(kind)));
+            let _ = write_at_line(log, line, fault_text(kind));
             Exit {
                 status: FAULT,
                 line,
@@ -119,9 +123,11 @@ pub fn legate<S: Source, K: Sink, L: Sink>(
 // Ends with a status that names no line, and writes its message.
 fn stop<L: Sink>(log: &mut L, status: u8, message: &[u8]) -> Exit
     ensures exit { result ≡ record { status = status; line = 0; kind = None } }
+    ensures logged { Logs (L.faults log.old) (L.faults log.new) (L.written log.old) (L.written log.new) (as_line message.now) }
     ensures later { L.faults log.old ≤ L.faults log.new }
 {
-    write_message(log, Message::Plain(message));
+    // A log that fails keeps the front that it took: there is nowhere else to say so.
+    let _ = write_line(log, message);
     Exit {
         status,
         line: 0,

@@ -34,3 +34,9 @@ returns-in-Err-WriteFault-clause-statuses g c = (6, lit< tt, sym (ap (λ (e : Ex
 
 pub returns-clause-statuses : goal.returns-clause-statuses
 returns-clause-statuses g c = (7, lit< tt, sym (ap (λ (e : Exit). e.status) c.stop-in-Err-NoMemory-run_script.ensures.exit))
+
+pub returns-then-not-is_run_command-clause-message : goal.returns-then-not-is_run_command-clause-message
+returns-then-not-is_run_command-clause-message g c = rw c.stop.ensures.exit c.stop.ensures.logged
+
+pub returns-in-Err-TooLong-clause-message : goal.returns-in-Err-TooLong-clause-message
+returns-in-Err-TooLong-clause-message g c = rw c.stop-in-Err-TooLong.ensures.exit c.stop-in-Err-TooLong.ensures.logged
