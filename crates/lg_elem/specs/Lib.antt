@@ -1,2 +1,4 @@
 pub mod Types
+pub mod Elements
 pub mod Operations
+pub mod Laws

@@ -1,6 +1,5 @@
 ghost use Rattle.std.specs.Prelude.{◌≡◌, ℤ, ◌+ℤ◌};
 ghost use Rattle.lg_elem.specs.declared.dtype.DType.{DType};
-ghost use Rattle.lg_elem.specs.declared.dtype.DType.TheVariants.{Int64};
 ghost use Rattle.lg_elem.specs.Types.{IsNumber, wrap};
 
 use crate::DType;
@@ -25,37 +24,11 @@ pub trait Elem: Copy {
     fn wrap(x: i128) -> Self
         ensures { number result ≡ wrap DTYPE x };
 
-    /// The sum, wrapped to the type. It is `wrap` of the sum of the numbers, by the machine's own arithmetic.
+    /// The sum, wrapped to the type. It is `wrap` of the sum of the numbers, by the machine's own arithmetic; for `Bool`
+    /// the or (NumPy's reference, "Math operations").
     fn wrapping_add(self, other: Self) -> Self
         ensures { number result ≡ wrap DTYPE (number self +ℤ number other) };
 
     /// An element is told by its number.
     ghost distinct: { (x y : Self) → number x ≡ number y → x ≡ y };
-}
-
-impl Elem for i64 {
-    ghost DTYPE = { Int64 };
-
-    ghost number = { λ x. x };
-
-    ghost distinct = { λ x y same. same };
-
-    const DTYPE: DType = DType::Int64;
-
-    fn value(self) -> i128 {
-        i128::from(self)
-    }
-
-    fn wrap(x: i128) -> Self {
-        let low = x.rem_euclid(1 << 64);
-        if low < 1 << 63 {
-            low as i64
-        } else {
-            (low - (1 << 64)) as i64
-        }
-    }
-
-    fn wrapping_add(self, other: Self) -> Self {
-        i64::wrapping_add(self, other)
-    }
 }

@@ -1,0 +1,4 @@
+pub mod Grids
+pub mod Again
+pub mod Laws
+pub use Rattle.lg_shape.specs.Tiling

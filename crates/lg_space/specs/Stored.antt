@@ -1,0 +1,38 @@
+-- Which rectangles and points there are in a program. The limits are this project's own.
+use Rattle.std.specs.Prelude.{◌≡◌, ℕ, ◌≤◌, ◌^◌, ◌-◌, List, ◌++◌, length, take, replicate, zip, All}
+use Rattle.lg_space.specs.Rectangle.{volume_of}
+
+-- the greatest end of a range
+abbrev pub MAX_END : ℕ
+MAX_END = 2 ^ 24
+
+-- the greatest number of indices
+abbrev pub MAX_VOLUME : ℕ
+MAX_VOLUME = 2 ^ 48
+
+-- the greatest number of axes
+abbrev pub MAX_AXES : ℕ
+MAX_AXES = 4
+
+-- each range ends where it begins or behind, within the limits
+pub record IsStorable (rect : List (ℕ × ℕ)) : Type 0 where
+  pub axes : length rect ≤ MAX_AXES
+  pub ordered : All (λ range. range.0 ≤ range.1) rect
+  pub ends : All (λ range. range.1 ≤ MAX_END) rect
+  pub volume : volume_of rect ≤ MAX_VOLUME
+
+-- so many numbers as there may be axes: those of the axes, and the filler behind them
+abbrev pub padded : ℕ → List ℕ → List ℕ
+padded filler numbers = numbers ++ replicate (MAX_AXES - length numbers) filler
+
+-- the coordinates of the axes, and zeros behind them
+pub record IsPoint (axes : ℕ) (at : List ℕ) : Type 0 where
+  pub few : axes ≤ MAX_AXES
+  pub filled : at ≡ padded 0 (take axes at)
+
+-- the ends of a rectangle's ranges, and ranges from 0 to 1 behind them
+pub record IsRect (axes : ℕ) (lo hi : List ℕ) : Type 0 where
+  pub few : axes ≤ MAX_AXES
+  pub lo_filled : lo ≡ padded 0 (take axes lo)
+  pub hi_filled : hi ≡ padded 1 (take axes hi)
+  pub storable : IsStorable (zip (take axes lo) (take axes hi))

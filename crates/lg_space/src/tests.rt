@@ -1,0 +1,53 @@
+// Rectangles with each number of axes. The expected places are worked out by hand, from the order in which the last axis
+// runs fastest.
+
+use crate::{AnyRect, Point};
+use std::process::Abort;
+use std::test::Fail;
+
+// The index is the rectangle's, and stands at this place.
+fn stands_at(rt: &impl Abort, rect: &AnyRect, index: &Point, place: u64) {
+    assert!(rt; rect.contains(index));
+    assert_eq!(rt; rect.ravel(index), place);
+    assert!(rt; place < rect.volume());
+    assert!(rt; rect.unravel(place) == *index);
+}
+
+#[test]
+fn one_axis_or_none(rt: HostRuntime) -> Result<(), Fail> {
+    stands_at(&rt, &AnyRect::new(&[]), &Point::new(&[]), 0);
+    let rect = AnyRect::new(&[(3, 8)]);
+    stands_at(&rt, &rect, &Point::new(&[3]), 0);
+    stands_at(&rt, &rect, &Point::new(&[7]), 4);
+    assert!(rt; !rect.contains(&Point::new(&[8])));
+    Ok(())
+}
+
+#[test]
+fn two_axes(rt: HostRuntime) -> Result<(), Fail> {
+    let rect = AnyRect::new(&[(1, 3), (2, 5)]);
+    stands_at(&rt, &rect, &Point::new(&[1, 4]), 2);
+    stands_at(&rt, &rect, &Point::new(&[2, 3]), 4);
+    assert_eq!(rt; rect.volume(), 6);
+    assert_eq!(rt; rect.range(1), (2, 5));
+    Ok(())
+}
+
+#[test]
+fn more_axes(rt: HostRuntime) -> Result<(), Fail> {
+    let three = AnyRect::new(&[(1, 3), (0, 2), (4, 7)]);
+    stands_at(&rt, &three, &Point::new(&[2, 0, 5]), 7);
+    let four = AnyRect::new(&[(0, 2), (1, 3), (2, 4), (3, 5)]);
+    stands_at(&rt, &four, &Point::new(&[1, 1, 3, 3]), 10);
+    assert_eq!(rt; AnyRect::new(&[(0, 1 << 24), (7, 7)]).volume(), 0);
+    Ok(())
+}
+
+#[test]
+fn what_two_rectangles_share(rt: HostRuntime) -> Result<(), Fail> {
+    let both = AnyRect::new(&[(0, 4), (2, 6)]).intersect(&AnyRect::new(&[(1, 9), (0, 5)]));
+    assert!(rt; both == AnyRect::new(&[(1, 4), (2, 5)]));
+    // A range from 0 to 1 adds no index, but an axis.
+    assert!(rt; AnyRect::new(&[]) != AnyRect::new(&[(0, 1)]));
+    Ok(())
+}

@@ -1,0 +1,4 @@
+pub mod Laws
+pub mod Tile
+pub mod TileLends
+pub mod Tiles

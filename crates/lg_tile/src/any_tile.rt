@@ -1,0 +1,174 @@
+ghost use Rattle.std.specs.Prelude.{◌≡◌, IfOk, length, map, replicate, slice_get, slice_set, Some};
+ghost use Rattle.lg_elem.specs.Types.{IsNumber};
+ghost use Rattle.lg_space.specs.Rectangle.{IsIn, place_in, volume_of};
+ghost use Rattle.lg_tile.specs.Tile.{tile_items, tile_rect};
+ghost use Rattle.lg_tile.specs.Tiles.{dtype_of, numbers, rect_of};
+
+use crate::Tile;
+use lg_elem::{DType, Elem};
+use lg_outside::NoMemory;
+use lg_space::{AnyRect, Point};
+use std::alloc::Global;
+
+/// A tile of one of the nine element types. Contracts see its type, its rectangle and the whole numbers that its elements
+/// stand for.
+#[derive(Drop)]
+pub enum AnyTile {
+    Bool(Tile<bool>),
+    Int8(Tile<i8>),
+    Int16(Tile<i16>),
+    Int32(Tile<i32>),
+    Int64(Tile<i64>),
+    UInt8(Tile<u8>),
+    UInt16(Tile<u16>),
+    UInt32(Tile<u32>),
+    UInt64(Tile<u64>),
+}
+
+// What an expression gives at the typed tile, whichever its type.
+macro_rules! each {
+    ($any:expr, $tile:ident => $body:expr) => {
+        match $any {
+            AnyTile::Bool($tile) => $body,
+            AnyTile::Int8($tile) => $body,
+            AnyTile::Int16($tile) => $body,
+            AnyTile::Int32($tile) => $body,
+            AnyTile::Int64($tile) => $body,
+            AnyTile::UInt8($tile) => $body,
+            AnyTile::UInt16($tile) => $body,
+            AnyTile::UInt32($tile) => $body,
+            AnyTile::UInt64($tile) => $body,
+        }
+    };
+}
+
+impl AnyTile {
+    /// A tile of this type with the same number at each index (NumPy's reference, "numpy.full"). It takes memory once, and
+    /// the only error is that there is none.
+    pub fn filled(alloc: Global, dtype: DType, rect: &AnyRect, x: i128) -> Result<AnyTile, NoMemory>
+        requires { IsNumber dtype x }
+        ensures dtype { IfOk result (λ tile. dtype_of tile ≡ dtype) }
+        ensures rect { IfOk result (λ tile. rect_of tile ≡ rect.now) }
+        ensures numbers { IfOk result (λ tile. numbers tile ≡ replicate (volume_of rect.now) x) }
+    {
+        Ok(match dtype {
+            DType::Bool => AnyTile::Bool(filled_with(alloc, rect, x)?),
+            DType::Int8 => AnyTile::Int8(filled_with(alloc, rect, x)?),
+            DType::Int16 => AnyTile::Int16(filled_with(alloc, rect, x)?),
+            DType::Int32 => AnyTile::Int32(filled_with(alloc, rect, x)?),
+            DType::Int64 => AnyTile::Int64(filled_with(alloc, rect, x)?),
+            DType::UInt8 => AnyTile::UInt8(filled_with(alloc, rect, x)?),
+            DType::UInt16 => AnyTile::UInt16(filled_with(alloc, rect, x)?),
+            DType::UInt32 => AnyTile::UInt32(filled_with(alloc, rect, x)?),
+            DType::UInt64 => AnyTile::UInt64(filled_with(alloc, rect, x)?),
+        })
+    }
+
+    /// The element type.
+    pub fn dtype(&self) -> DType
+        ensures { result ≡ dtype_of self.now }
+    {
+        match self {
+            AnyTile::Bool(_) => DType::Bool,
+            AnyTile::Int8(_) => DType::Int8,
+            AnyTile::Int16(_) => DType::Int16,
+            AnyTile::Int32(_) => DType::Int32,
+            AnyTile::Int64(_) => DType::Int64,
+            AnyTile::UInt8(_) => DType::UInt8,
+            AnyTile::UInt16(_) => DType::UInt16,
+            AnyTile::UInt32(_) => DType::UInt32,
+            AnyTile::UInt64(_) => DType::UInt64,
+        }
+    }
+
+    /// The rectangle. There are as many elements as it has indices.
+    pub fn rect(&self) -> &AnyRect
+        ensures value { result.now ≡ rect_of self.now }
+        ensures full { length (numbers self.now) ≡ volume_of (rect_of self.now) }
+    {
+        each!(self, tile => tile.rect())
+    }
+
+    /// The number of the element at an index.
+    pub fn at(&self, p: &Point) -> i128
+        requires { IsIn (rect_of self.now) p.now }
+        ensures value { slice_get (numbers self.now) (place_in (rect_of self.now) p.now)
+            ≡ Some result }
+        ensures fits { IsNumber (dtype_of self.now) result }
+    {
+        each!(self, tile => number_at(tile, p))
+    }
+
+    /// Writes the element of a number at an index.
+    pub fn set(&mut self, p: &Point, x: i128)
+        requires inside { IsIn (rect_of self.old) p.now }
+        requires number { IsNumber (dtype_of self.old) x }
+        ensures dtype { dtype_of self.new ≡ dtype_of self.old }
+        ensures rect { rect_of self.new ≡ rect_of self.old }
+        ensures numbers { numbers self.new
+            ≡ slice_set (numbers self.old) (place_in (rect_of self.old) p.now) x }
+    {
+        each!(self, tile => set_number(tile, p, x))
+    }
+
+    /// A tile of the same type, rectangle and numbers. It takes memory once, and the only error is that there is none.
+    pub fn copied(&self, alloc: Global) -> Result<AnyTile, NoMemory>
+        ensures dtype { IfOk result (λ tile. dtype_of tile ≡ dtype_of self.now) }
+        ensures rect { IfOk result (λ tile. rect_of tile ≡ rect_of self.now) }
+        ensures numbers { IfOk result (λ tile. numbers tile ≡ numbers self.now) }
+    {
+        Ok(match self {
+            AnyTile::Bool(tile) => AnyTile::Bool(tile.copied(alloc)?),
+            AnyTile::Int8(tile) => AnyTile::Int8(tile.copied(alloc)?),
+            AnyTile::Int16(tile) => AnyTile::Int16(tile.copied(alloc)?),
+            AnyTile::Int32(tile) => AnyTile::Int32(tile.copied(alloc)?),
+            AnyTile::Int64(tile) => AnyTile::Int64(tile.copied(alloc)?),
+            AnyTile::UInt8(tile) => AnyTile::UInt8(tile.copied(alloc)?),
+            AnyTile::UInt16(tile) => AnyTile::UInt16(tile.copied(alloc)?),
+            AnyTile::UInt32(tile) => AnyTile::UInt32(tile.copied(alloc)?),
+            AnyTile::UInt64(tile) => AnyTile::UInt64(tile.copied(alloc)?),
+        })
+    }
+}
+
+// The element of a number that the type has.
+#[tactic(auto, using(crate::proofs::NumberLemmas::wrapped_number))]
+fn element<T: Elem>(x: i128) -> T
+    requires { IsNumber T.DTYPE x }
+    ensures { T.number result ≡ x }
+{
+    T::wrap(x)
+}
+
+// A typed tile with the element of a number at each index.
+fn filled_with<T: Elem>(alloc: Global, rect: &AnyRect, x: i128) -> Result<Tile<T>, NoMemory>
+    requires { IsNumber T.DTYPE x }
+    ensures rect { IfOk result (λ tile. tile_rect tile ≡ rect.now) }
+    ensures numbers { IfOk result (λ tile. map T.number (tile_items tile)
+        ≡ replicate (volume_of rect.now) x) }
+{
+    Tile::filled(alloc, rect, element(x))
+}
+
+// The number of a typed tile's element.
+#[tactic(auto, using(crate::proofs::NumberLemmas::number_read))]
+fn number_at<T: Elem>(tile: &Tile<T>, p: &Point) -> i128
+    requires { IsIn (tile_rect tile.now) p.now }
+    ensures value { slice_get (map T.number (tile_items tile.now)) (place_in (tile_rect tile.now) p.now)
+        ≡ Some result }
+    ensures fits { IsNumber T.DTYPE result }
+{
+    tile.at(p).value()
+}
+
+// Writes the element of a number into a typed tile.
+#[tactic(auto, using(crate::proofs::NumberLemmas::map_written))]
+fn set_number<T: Elem>(tile: &mut Tile<T>, p: &Point, x: i128)
+    requires inside { IsIn (tile_rect tile.old) p.now }
+    requires number { IsNumber T.DTYPE x }
+    ensures rect { tile_rect tile.new ≡ tile_rect tile.old }
+    ensures numbers { map T.number (tile_items tile.new)
+        ≡ slice_set (map T.number (tile_items tile.old)) (place_in (tile_rect tile.old) p.now) x }
+{
+    tile.set(p, element(x));
+}
