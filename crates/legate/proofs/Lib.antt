@@ -1,10 +1,4 @@
-pub mod Printing
 pub mod Runs
 pub mod WordLemmas
 pub mod StatusLemmas
 pub mod PartLemmas
-pub mod NameLemmas
-pub mod Broadcasts
-pub mod Values
-pub mod States
-pub mod Seen

@@ -1,23 +1,23 @@
 -- A run, statement by statement.
-use Rattle.std.proofs.Common.{◌≡◌, ◌≢◌, ℕ, ◌+◌, ◌<◌, ◌≤◌, suc, List, [], ◌∷◌, ◌++◌, Option, None, Some, refl, sym, ap, subst, ◌∙◌, append_assoc, append-nil, take, drop, map, get_or, ℤ, length}
+use Rattle.std.proofs.Common.{◌≡◌, ◌≢◌, ℕ, ◌+◌, ◌<◌, ◌≤◌, suc, List, [], ◌∷◌, ◌++◌, Option, None, refl, sym, ap, subst, ◌∙◌, append_assoc, append-nil, take, drop, map, get_or, length}
 use Rattle.std.proofs.lemmas.List.{take_all, take_more, take-map, map-append}
 use Rattle.std.proofs.Math.Seq.{split_at}
 use Rattle.std.specs.Io.KnownBytes.{Appends}
 use Rattle.std.proofs.KnownBytes.{Appends-nil, Appends-trans}
 use Rattle.lg_outside.specs.Outside.{AppendsPart}
-use Rattle.lg_grammar.specs.Tree.{Tree, StatementTree, bind, print, LineTree}
+use Rattle.lg_grammar.specs.Tree.{LineTree}
 use Rattle.lg_meaning.specs.Memory.{State}
 use Rattle.lg_meaning.specs.declared.fault.FaultKind.{FaultKind}
 use Rattle.lg_meaning.specs.Step.{step}
 use Rattle.lg_meaning.specs.Run.{done, fault_at, run, run_from, run_after, start, Run}
-use Rattle.legate.specs.Running.{Ends, PrintsFirst, IsStopped, Performs, PerformsPart, FaultsAt, StopsAt}
+use Rattle.legate.specs.Running.{Ends, PrintsFirst, IsStopped, stop_of, Writes, WritesPart, StopsWriting}
 use Rattle.legate.specs.declared.running.RunStop.{RunStop}
 use Rattle.legate.specs.declared.running.RunStop.TheVariants.{Fault, WriteFault, NoMemory}
-use Rattle.legate.specs.Names.{environment}
-use Rattle.legate.specs.Statement.{Prints}
-use Rattle.legate.specs.declared.names.Names.{Names}
-use Rattle.legate.specs.Evaluation.{Stands}
-use Rattle.legate.proofs.States.{stands_start}
+use Rattle.lg_session.specs.Standing.{Stands}
+use Rattle.lg_session.specs.Session.{FaultsAt, StopsAt}
+use Rattle.lg_session.specs.declared.session.Session.{Session}
+use Rattle.lg_session.specs.declared.session.StopEnd.{StopEnd}
+use Rattle.lg_session.specs.declared.session.StopEnd.TheVariants.{Fault as FaultAt, NoMemory as NoRoom}
 
 -- the statements have no fault, print this text and lead from one state to the other
 pub data Reaches : State → List LineTree → List ℕ → State → Type 0 where
@@ -51,30 +51,30 @@ lacks : (xs ys : List ℕ) → xs ≢ [] → xs ++ ys ≢ []
 lacks [] ys h e = h refl
 lacks (x ∷ xs) ys h e = cc
 
--- the statements have no fault, what they print was appended, and the names stand for the state after them
-pub record Reached (names : List ℕ → Option (List ℤ)) (lines : List LineTree) (old new : Option (List ℕ)) : Type 0 where
+-- the statements have no fault, what they print was appended, and the session stands for the state after them
+pub record Reached (session : Session) (lines : List LineTree) (old new : Option (List ℕ)) : Type 0 where
   pub state : State
   pub text : List ℕ
   pub reaches : Reaches start lines text state
   pub appended : Appends old new text
-  pub stands : Stands names state
+  pub stands : Stands session state
 
-pub reached_none : (names : List ℕ → Option (List ℤ)) (a : Option (List ℕ)) → ((w : List ℕ) → names w ≡ None) → Reached names [] a a
-reached_none names a none = record { state = start; text = []; reaches = here; appended = Appends-nil a; stands = stands_start names none }
+pub reached_none : (session : Session) (a : Option (List ℕ)) → Stands session start → Reached session [] a a
+reached_none session a stands = record { state = start; text = []; reaches = here; appended = Appends-nil a; stands = stands }
 
 -- what a whole script without a fault prints
-run-reached : (names : List ℕ → Option (List ℤ)) (lines : List LineTree) (a b : Option (List ℕ)) (r : Reached names lines a b)
+run-reached : (session : Session) (lines : List LineTree) (a b : Option (List ℕ)) (r : Reached session lines a b)
     → run lines ≡ record { text = r.text; end = done }
-run-reached names lines a b r =
+run-reached session lines a b r =
     ap run (sym (append-nil lines)) ∙ run-append r.reaches [] ∙ ap (λ (l : List ℕ). record { text = l; end = done }) (append-nil r.text)
 
-ends_reached : (names : List ℕ → Option (List ℤ)) (lines : List LineTree) (a b : Option (List ℕ)) → Reached names lines a b → Ends lines done a b
-ends_reached names lines a b r = record {
-  ended = ap (λ (x : Run). x.end) (run-reached names lines a b r);
-  printed = subst (Appends a b) (sym (ap (λ (x : Run). x.text) (run-reached names lines a b r))) r.appended;
+ends_reached : (session : Session) (lines : List LineTree) (a b : Option (List ℕ)) → Reached session lines a b → Ends lines done a b
+ends_reached session lines a b r = record {
+  ended = ap (λ (x : Run). x.end) (run-reached session lines a b r);
+  printed = subst (Appends a b) (sym (ap (λ (x : Run). x.text) (run-reached session lines a b r))) r.appended;
 }
 
-module _ (names : List ℕ → Option (List ℤ)) (lines behind : List LineTree) (line : LineTree) (a b c : Option (List ℕ)) (r : Reached names lines a b) where
+module _ (session : Session) (lines behind : List LineTree) (line : LineTree) (a b c : Option (List ℕ)) (r : Reached session lines a b) where
   s : State
   s = r.state
 
@@ -91,7 +91,7 @@ module _ (names : List ℕ → Option (List ℤ)) (lines behind : List LineTree)
   whole = run-append r.reaches (line ∷ behind)
 
   -- the output failed within the print of one statement
-  part_reached : PerformsPart line s b c → AppendsPart a c (run (lines ++ line ∷ behind)).text
+  part_reached : WritesPart line s b c → AppendsPart a c (run (lines ++ line ∷ behind)).text
   unfolding s rest whole
   part_reached p =
       let sound = run_sound line.number (step line.statement s).text (step line.statement s).fault rest p.sound in
@@ -105,74 +105,69 @@ module _ (names : List ℕ → Option (List ℤ)) (lines behind : List LineTree)
       }
 
   -- the statement has a fault
-  fault_reached : (number : ℕ) (kind : FaultKind) → FaultsAt line s number kind b c → Ends (lines ++ line ∷ behind) (fault_at number kind) a c
+  fault_reached : (number : ℕ) (kind : FaultKind) → FaultsAt line s number kind → c ≡ b → Ends (lines ++ line ∷ behind) (fault_at number kind) a c
   unfolding s rest whole
-  fault_reached number kind f =
+  fault_reached number kind f unchanged =
       let stopped = ap (λ o. run_after line.number (step line.statement s).text o rest) f.fault in
       let text : (run (lines ++ line ∷ behind)).text ≡ r.text = ap (λ (x : Run). x.text) whole ∙ ap (λ (x : Run). r.text ++ x.text) stopped ∙ append-nil r.text in
       record {
         ended = ap (λ (x : Run). x.end) whole ∙ ap (λ (x : Run). x.end) stopped ∙ ap (λ n. fault_at n kind) f.line_number;
-        printed = subst (λ o. Appends a o (run (lines ++ line ∷ behind)).text) (sym f.unchanged) (subst (Appends a b) (sym text) r.appended);
+        printed = subst (λ o. Appends a o (run (lines ++ line ∷ behind)).text) (sym unchanged) (subst (Appends a b) (sym text) r.appended);
       }
 
-module _ {X : Type 0} (f : X → LineTree) (xs : List X) (i : ℕ) (x : X) (is : x ≡ get_or xs i x) (names : List ℕ → Option (List ℤ)) (a b c : Option (List ℕ))
-    (r : Reached names (take i (map f xs)) a b) (within : i < length xs) where
+module _ {X : Type 0} (f : X → LineTree) (xs : List X) (i : ℕ) (x : X) (is : x ≡ get_or xs i x) (session : Session) (a b c : Option (List ℕ))
+    (r : Reached session (take i (map f xs)) a b) (within : i < length xs) where
   -- one more line was run
-  pub reached_next : (after : Names) → ((s : State) → Stands names s → Performs (f x) s b c after)
-      → Reached (environment after) (take (i + 1) (map f xs)) a c
+  pub reached_next : (after : Session) → ((s : State) → Stands session s → Writes (f x) s b c after)
+      → Reached after (take (i + 1) (map f xs)) a c
   reached_next after performs =
       let same : take (i + 1) (map f xs) ≡ take i (map f xs) ++ f x ∷ [] =
       take-map f (i + 1) xs ∙ ap (map f) (take_more xs i x within) ∙ map-append f (take i xs) (get_or xs i x ∷ [])
       ∙ ap (λ y. map f (take i xs) ++ f y ∷ []) (sym is) ∙ ap (λ l. l ++ f x ∷ []) (sym (take-map f i xs)) in
       let p = performs r.state r.stands in
-      let more : Reached (environment after) (take i (map f xs) ++ f x ∷ []) a c = record {
+      let more : Reached after (take i (map f xs) ++ f x ∷ []) a c = record {
         state = (step (f x).statement r.state).state;
         text = r.text ++ (step (f x).statement r.state).text;
         reaches = reaches_more (f x) r.reaches p.sound;
         appended = Appends-trans a b c r.text (step (f x).statement r.state).text r.appended p.printed;
         stands = p.stands;
       } in
-      subst (λ l. Reached (environment after) l a c) (sym same) more
+      subst (λ l. Reached after l a c) (sym same) more
 
   cut : map f xs ≡ take i (map f xs) ++ f x ∷ map f (drop (suc i) xs)
   cut = ap (map f) (split_at xs i x within) ∙ map-append f (take i xs) (get_or xs i x ∷ drop (suc i) xs)
       ∙ ap (λ y. map f (take i xs) ++ f y ∷ map f (drop (suc i) xs)) (sym is) ∙ ap (λ l. l ++ f x ∷ map f (drop (suc i) xs)) (sym (take-map f i xs))
 
   -- the run stopped at a line
-  stopped_at : (stop : RunStop) → StopsAt stop (f x) r.state b c → IsStopped stop (map f xs) a c
+  stopped_at : (stop : RunStop) → StopsWriting stop (f x) r.state b c → IsStopped stop (map f xs) a c
   unfolding s
   stopped_at (Fault number kind) h =
       let P : List LineTree → Type 0 = λ l. Ends l (fault_at number kind) a c in
-      subst P (sym cut) (fault_reached names (take i (map f xs)) (map f (drop (suc i) xs)) (f x) a b c r number kind h)
+      subst P (sym cut) (fault_reached session (take i (map f xs)) (map f (drop (suc i) xs)) (f x) a b c r number kind h.0 h.1)
   stopped_at WriteFault h =
       let P : List LineTree → Type 0 = λ l. AppendsPart a c (run l).text in
-      subst P (sym cut) (part_reached names (take i (map f xs)) (map f (drop (suc i) xs)) (f x) a b c r h)
+      subst P (sym cut) (part_reached session (take i (map f xs)) (map f (drop (suc i) xs)) (f x) a b c r h)
   stopped_at NoMemory h =
       let P : Option (List ℕ) → Type 0 = λ o. PrintsFirst (map f xs) a o in
-      subst P (sym h) (record { count = i; printed = (ends_reached names (take i (map f xs)) a b r).printed })
+      subst P (sym h) (record { count = i; printed = (ends_reached session (take i (map f xs)) a b r).printed })
 
-  pub reached_stop : (stop : RunStop) → ((s : State) → Stands names s → StopsAt stop (f x) s b c) → IsStopped stop (map f xs) a c
+  pub reached_stop : (stop : RunStop) → ((s : State) → Stands session s → StopsWriting stop (f x) s b c) → IsStopped stop (map f xs) a c
   reached_stop stop h = stopped_at stop (h r.state r.stands)
 
 -- all lines were run
-pub reached_end : {X : Type 0} (f : X → LineTree) (xs : List X) (i : ℕ) (names : List ℕ → Option (List ℤ)) (a b : Option (List ℕ))
-    → Reached names (take i (map f xs)) a b → length xs ≤ i → Ends (map f xs) done a b
-reached_end f xs i names a b r past =
+pub reached_end : {X : Type 0} (f : X → LineTree) (xs : List X) (i : ℕ) (session : Session) (a b : Option (List ℕ))
+    → Reached session (take i (map f xs)) a b → length xs ≤ i → Ends (map f xs) done a b
+reached_end f xs i session a b r past =
     let all : take i (map f xs) ≡ map f xs = take-map f i xs ∙ ap (map f) (take_all i xs past) in
-    subst (λ l. Ends l done a b) all (ends_reached names (take i (map f xs)) a b r)
+    subst (λ l. Ends l done a b) all (ends_reached session (take i (map f xs)) a b r)
 
--- the output failed within a print
-pub prints_part : (line : LineTree) (state : State) (e : Tree) (text bytes : List ℕ) (old new : Option (List ℕ)) → line.statement ≡ print e → Prints e state text
-    → bytes ≡ text → AppendsPart old new bytes → PerformsPart line state old new
-prints_part line state e text bytes old new is p same part =
-    let P : StatementTree → Type 0 = λ t. ((step t state).fault ≡ None) × AppendsPart old new (step t state).text in
-    let Q : List ℕ → Type 0 = λ l. AppendsPart old new l in
-    let both = subst P (sym is) (p.sound, subst Q (same ∙ sym p.same) part) in
-    record { sound = both.0; printed = both.1 }
-
--- an assignment with a fault
-pub bind_faults : (line : LineTree) (state : State) (w : List ℕ) (e : Tree) (kind : FaultKind) (old : Option (List ℕ)) → line.statement ≡ bind w e
-    → (step (bind w e) state).fault ≡ Some kind → FaultsAt line state line.number kind old old
-bind_faults line state w e kind old is fault =
-    let P : StatementTree → Type 0 = λ t. (step t state).fault ≡ Some kind in
-    record { line_number = refl; fault = subst P (sym is) fault; unchanged = refl }
+-- the session stopped at a line, and nothing was written
+pub stops_unwritten : (stop : RunStop) (end : StopEnd) (line : LineTree) (state : State) (old : Option (List ℕ)) → stop ≡ stop_of end
+    → StopsAt end line state → StopsWriting stop line state old old
+stops_unwritten stop end line state old is h =
+    let P : RunStop → Type 0 = λ s. StopsWriting s line state old old in
+    subst P (sym is) (unwritten end h)
+  where
+    unwritten : (e : StopEnd) → StopsAt e line state → StopsWriting (stop_of e) line state old old
+    unwritten (FaultAt number kind) f = (f, refl)
+    unwritten NoRoom f = refl

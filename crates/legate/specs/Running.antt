@@ -1,15 +1,16 @@
 -- What running a script, or one statement of it, does to the output.
-use Rattle.std.specs.Prelude.{◌≡◌, ℕ, List, take, Option, None, Some}
+use Rattle.std.specs.Prelude.{◌≡◌, ℕ, List, take, Option, None}
 use Rattle.std.specs.Io.KnownBytes.{Appends}
 use Rattle.lg_outside.specs.Outside.{AppendsPart}
 use Rattle.lg_grammar.specs.Tree.{LineTree}
 use Rattle.lg_meaning.specs.Memory.{State}
-use Rattle.lg_meaning.specs.declared.fault.FaultKind.{FaultKind}
 use Rattle.lg_meaning.specs.Step.{step}
 use Rattle.lg_meaning.specs.Run.{End, fault_at, run}
-use Rattle.legate.specs.Evaluation.{Stands}
-use Rattle.legate.specs.Names.{environment}
-use Rattle.legate.specs.declared.names.Names.{Names}
+use Rattle.lg_session.specs.Standing.{Stands}
+use Rattle.lg_session.specs.Session.{FaultsAt}
+use Rattle.lg_session.specs.declared.session.Session.{Session}
+use Rattle.lg_session.specs.declared.session.StopEnd.{StopEnd}
+use Rattle.lg_session.specs.declared.session.StopEnd.TheVariants.{Fault as FaultAt, NoMemory as NoRoom}
 use Rattle.legate.specs.declared.running.RunStop.{RunStop}
 use Rattle.legate.specs.declared.running.RunStop.TheVariants.{Fault, WriteFault, NoMemory}
 
@@ -29,25 +30,24 @@ IsStopped (Fault line kind) script old new = Ends script (fault_at line kind) ol
 IsStopped WriteFault script old new = AppendsPart old new (run script).text
 IsStopped NoMemory script old new = PrintsFirst script old new
 
--- the statement has no fault, its text was appended, and the code's names stand for the state after it
-pub record Performs (line : LineTree) (state : State) (old new : Option (List ℕ)) (names : Names) : Type 0 where
+-- the statement has no fault, its text was appended, and the session stands for the state after it
+pub record Writes (line : LineTree) (state : State) (old new : Option (List ℕ)) (session : Session) : Type 0 where
   pub sound : (step line.statement state).fault ≡ None
   pub printed : Appends old new (step line.statement state).text
-  pub stands : Stands (environment names) (step line.statement state).state
+  pub stands : Stands session (step line.statement state).state
 
 -- the statement has no fault, and of its text only a part was appended
-pub record PerformsPart (line : LineTree) (state : State) (old new : Option (List ℕ)) : Type 0 where
+pub record WritesPart (line : LineTree) (state : State) (old new : Option (List ℕ)) : Type 0 where
   pub sound : (step line.statement state).fault ≡ None
   pub printed : AppendsPart old new (step line.statement state).text
 
--- the statement of this line has this fault, and nothing was appended
-pub record FaultsAt (line : LineTree) (state : State) (number : ℕ) (kind : FaultKind) (old new : Option (List ℕ)) : Type 0 where
-  pub line_number : line.number ≡ number
-  pub fault : (step line.statement state).fault ≡ Some kind
-  pub unchanged : new ≡ old
+-- a run stops where its session does
+abbrev pub stop_of : StopEnd → RunStop
+stop_of (FaultAt number kind) = Fault number kind
+stop_of NoRoom = NoMemory
 
 -- what a statement did before the run stopped there
-abbrev pub StopsAt : RunStop → LineTree → State → Option (List ℕ) → Option (List ℕ) → Type 0
-StopsAt (Fault number kind) line state old new = FaultsAt line state number kind old new
-StopsAt WriteFault line state old new = PerformsPart line state old new
-StopsAt NoMemory line state old new = new ≡ old
+abbrev pub StopsWriting : RunStop → LineTree → State → Option (List ℕ) → Option (List ℕ) → Type 0
+StopsWriting (Fault number kind) line state old new = FaultsAt line state number kind × (new ≡ old)
+StopsWriting WriteFault line state old new = WritesPart line state old new
+StopsWriting NoMemory line state old new = new ≡ old

@@ -1,17 +1,12 @@
 //! The program: it runs a script of array statements, and prints what the script prints.
 #![tactic(auto)]
 
-mod adding;
-mod evaluation;
 mod exit;
 mod loading;
 mod messages;
-mod names;
 mod running;
-mod statement;
 #[cfg(test)]
 mod tests;
-mod text;
 mod top;
 
 pub use exit::Exit;

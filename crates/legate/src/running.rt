@@ -3,17 +3,17 @@ ghost use Rattle.lg_outside.specs.Outside.{Rose};
 ghost use Rattle.lg_grammar.specs.View.{script_of, line_of};
 ghost use Rattle.lg_meaning.specs.Memory.{State};
 ghost use Rattle.lg_meaning.specs.Run.{done};
-ghost use Rattle.legate.specs.Names.{environment};
-ghost use Rattle.legate.specs.Evaluation.{Stands};
-ghost use Rattle.legate.specs.Running.{Ends, IsStopped, Performs, StopsAt};
+ghost use Rattle.lg_session.specs.Standing.{Stands};
+ghost use Rattle.legate.specs.Running.{Ends, IsStopped, stop_of, Writes, StopsWriting};
 
-use crate::evaluation::EvaluateEnd;
-use crate::names::Names;
-use crate::statement::{bind, print_text};
-use lg_grammar::{Line, Script, Statement};
+use lg_grammar::{Line, Script};
 use lg_meaning::FaultKind;
 use lg_outside::{Sink, write_all};
+use lg_session::{Session, StopEnd};
 use std::alloc::Global;
+
+/// Into about how many pieces an operation is cut. It never changes what a script prints.
+const PIECES: u32 = 4;
 
 /// Why a run stopped before its end.
 #[derive(Clone, Copy, Debug)]
@@ -34,6 +34,17 @@ pub enum RunStop {
     NoMemory,
 }
 
+impl From<StopEnd> for RunStop {
+    ghost from_gives = { λ end stop. stop ≡ stop_of end };
+
+    fn from(end: StopEnd) -> RunStop {
+        match end {
+            StopEnd::Fault { line, kind } => RunStop::Fault { line, kind },
+            StopEnd::NoMemory => RunStop::NoMemory,
+        }
+    }
+}
+
 /// Runs the statements in order, and writes what each prints.
 pub fn run_script<K: Sink>(alloc: Global, script: &Script, out: &mut K) -> Result<(), RunStop>
     ensures done { OnOk result (Ends (script_of script.now) done (K.written out.old) (K.written out.new)) }
@@ -42,51 +53,37 @@ pub fn run_script<K: Sink>(alloc: Global, script: &Script, out: &mut K) -> Resul
     ensures fault { IsErrOf result RunStop.WriteFault → Rose (K.faults out.old) (K.faults out.new) }
     ensures later { K.faults out.old ≤ K.faults out.new }
 {
-    let mut names = Names::new(alloc);
+    let Ok(mut session) = Session::new(alloc, PIECES) else {
+        return Err(RunStop::NoMemory);
+    };
     for line in script.lines.as_slice() {
-        if let Err(stop) = execute(alloc, line, &mut names, out) {
+        if let Err(stop) = run_line(alloc, line, &mut session, out) {
             return Err(stop);
         }
     }
     Ok(())
 }
 
-// Runs one statement.
-fn execute<K: Sink>(
+// Runs the statement of a line, and writes what it prints.
+fn run_line<K: Sink>(
     alloc: Global,
     line: &Line,
-    names: &mut Names,
+    session: &mut Session,
     out: &mut K,
 ) -> Result<(), RunStop>
-    ensures done { OnOk result ((state : State) → Stands (environment names.old) state →
-        Performs (line_of line.now) state (K.written out.old) (K.written out.new) names.new) }
-    ensures stopped { IfErr result (λ stop. (state : State) → Stands (environment names.old) state →
-        StopsAt stop (line_of line.now) state (K.written out.old) (K.written out.new)) }
+    ensures done { OnOk result ((state : State) → Stands session.old state →
+        Writes (line_of line.now) state (K.written out.old) (K.written out.new) session.new) }
+    ensures stopped { IfErr result (λ stop. (state : State) → Stands session.old state →
+        StopsWriting stop (line_of line.now) state (K.written out.old) (K.written out.new)) }
     ensures fault { IsErrOf result RunStop.WriteFault → Rose (K.faults out.old) (K.faults out.new) }
     ensures later { K.faults out.old ≤ K.faults out.new }
 {
-    match &line.statement {
-        Statement::Bind { name, value } => match bind(alloc, names, name.as_slice(), value) {
-            Ok(()) => Ok(()),
-            Err(EvaluateEnd::Fault(kind)) => Err(RunStop::Fault {
-                line: line.number,
-                kind,
-            }),
-            Err(EvaluateEnd::NoMemory) => Err(RunStop::NoMemory),
-        },
-        Statement::Print { value } => {
-            let text = match print_text(alloc, names, value) {
-                Ok(text) => text,
-                Err(EvaluateEnd::Fault(kind)) => return Err(RunStop::Fault {
-                    line: line.number,
-                    kind,
-                }),
-                Err(EvaluateEnd::NoMemory) => return Err(RunStop::NoMemory),
-            };
-            let Ok(()) = write_all(out, &text) else {
-                return Err(RunStop::WriteFault);
-            };
-            Ok(())
-        }
-    }
+    let text = match session.step(alloc, line) {
+        Ok(text) => text,
+        Err(stop) => return Err(RunStop::from(stop.end)),
+    };
+    let Ok(()) = write_all(out, &text) else {
+        return Err(RunStop::WriteFault);
+    };
+    Ok(())
 }

@@ -1,4 +1,3 @@
-pub mod Shape
 pub mod Memory
 pub mod Value
 pub mod Text
@@ -8,3 +7,4 @@ pub use Rattle.lg_grammar.specs.Tree
 pub use Rattle.lg_grammar.specs.Script
 pub use Rattle.lg_elem.specs.Types
 pub use Rattle.lg_elem.specs.Operations
+pub use Rattle.lg_shape.specs.Shapes

@@ -5,7 +5,7 @@ use Rattle.std.specs.Ordering.{nat_cmp}
 use Rattle.std.specs.Cmp.Lexicographic.{slice_cmp}
 use Rattle.std.specs.FinMap.{FinMap}
 use Rattle.lg_elem.specs.declared.dtype.DType.{DType}
-use Rattle.lg_meaning.specs.Shape.{size_of}
+use Rattle.lg_shape.specs.Shapes.{size_of}
 
 -- the elements that a value was given when it was made, in row-major order
 pub record Root : Type 0 where

@@ -1,7 +1,7 @@
 -- Printed text: Python's text of nested lists, and a line end.
 use Rattle.std.specs.Prelude.{ℕ, suc, zero, List, [], ◌∷◌, ◌++◌, map, take, drop, codes, ℤ, pos, slice_index_or}
 use Rattle.std.specs.Fmt.{signed_decimal}
-use Rattle.lg_meaning.specs.Shape.{size_of}
+use Rattle.lg_shape.specs.Shapes.{size_of}
 
 -- the pieces with a comma and a blank between each two
 abbrev pub separated : List (List ℕ) → List ℕ

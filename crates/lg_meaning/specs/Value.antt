@@ -1,5 +1,5 @@
 -- The value of an expression, or its first fault. After NumPy's reference, "numpy.full", "Broadcasting" and "numpy.add".
-use Rattle.std.specs.Prelude.{ℕ, List, [], ◌∷◌, map, replicate, zip, Option, Some, None, Result, Ok, Err, ℤ, pos}
+use Rattle.std.specs.Prelude.{ℕ, ◌^◌, nat_lt, if◌then◌else◌, List, [], ◌∷◌, map, replicate, zip, Option, Some, None, Result, Ok, Err, ℤ, pos}
 use Rattle.std.specs.FinMap.{get}
 use Rattle.lg_elem.specs.declared.dtype.DType.{DType}
 use Rattle.lg_elem.specs.declared.dtype.DType.TheVariants.{Int64}
@@ -7,9 +7,13 @@ use Rattle.lg_elem.specs.declared.kinds.Binary.TheVariants.{Add}
 use Rattle.lg_elem.specs.Operations.{binary_of}
 use Rattle.lg_grammar.specs.Tree.{Tree, name, full, add}
 use Rattle.lg_meaning.specs.declared.fault.FaultKind.{FaultKind}
-use Rattle.lg_meaning.specs.declared.fault.FaultKind.TheVariants.{Name, Shape}
-use Rattle.lg_meaning.specs.Shape.{joined_shape, broadcast}
+use Rattle.lg_meaning.specs.declared.fault.FaultKind.TheVariants.{Name, Shape, Limit}
+use Rattle.lg_shape.specs.Shapes.{joined_shape, broadcast}
 use Rattle.lg_meaning.specs.Memory.{View, Memory, Names, viewed}
+
+-- the greatest extent that an array may have. This project's own
+abbrev pub MAX_EXTENT : ℕ
+MAX_EXTENT = 2 ^ 24
 
 -- what is known of a value before an element is computed
 pub record Static : Type 0 where
@@ -20,6 +24,10 @@ pub record Static : Type 0 where
 abbrev pub named : Option View → Result Static FaultKind
 named None = Err Name
 named (Some view) = Ok (record { dtype = view.dtype; shape = view.shape })
+
+-- so many int64 elements on one axis; a size past the limit is a fault
+abbrev pub filled : ℕ → Result Static FaultKind
+filled n = if nat_lt MAX_EXTENT n then Err Limit else Ok (record { dtype = Int64; shape = n ∷ [] })
 
 -- the sum of two values, of their one type; shapes that don't broadcast are a fault
 abbrev pub shaped : DType → Option (List ℕ) → Result Static FaultKind
@@ -35,7 +43,7 @@ summed (Ok a) (Ok b) = shaped a.dtype (joined_shape a.shape b.shape)
 -- type and shape of an expression, or its first static fault
 abbrev pub static_of : Tree → Names → Result Static FaultKind
 static_of (name w) names = named (get names w)
-static_of (full n x) names = Ok (record { dtype = Int64; shape = n ∷ [] })
+static_of (full n x) names = filled n
 static_of (add a b) names = summed (static_of a names) (static_of b names)
 
 -- the shape and the type where there is no fault

@@ -1,13 +1,14 @@
 //! Worked examples of the definitions. Each clause is computed by the check, so a definition that says something else is
 //! refused. The values are NumPy's and Python's.
-ghost use Rattle.std.specs.Prelude.{◌≡◌, [], ◌∷◌, codes, pos, negsuc, None, Some};
+ghost use Rattle.std.specs.Prelude.{◌≡◌, [], ◌∷◌, codes, pos, negsuc, None, Some, Ok};
 ghost use Rattle.lg_elem.specs.declared.dtype.DType.TheVariants.{Bool, Int8, Int64, UInt8};
 ghost use Rattle.lg_elem.specs.Types.{wrap};
 ghost use Rattle.lg_grammar.specs.Tree.{full, add, print};
-ghost use Rattle.lg_meaning.specs.declared.fault.FaultKind.TheVariants.{Shape};
-ghost use Rattle.lg_meaning.specs.Shape.{places, place_of, broadcast, joined_shape};
+ghost use Rattle.lg_meaning.specs.declared.fault.FaultKind.TheVariants.{Shape, Limit};
+ghost use Rattle.lg_shape.specs.Shapes.{places, place_of, broadcast, joined_shape};
 ghost use Rattle.lg_meaning.specs.Text.{printed};
-ghost use Rattle.lg_meaning.specs.Run.{run, done, fault_at};
+ghost use Rattle.lg_meaning.specs.Value.{static_of};
+ghost use Rattle.lg_meaning.specs.Run.{run, done, fault_at, start};
 
 /// Indices in row-major order, and their places.
 pub fn places_by_example()
@@ -38,6 +39,12 @@ pub fn wrapping_by_example()
     ensures above { wrap UInt8 (negsuc 0) ≡ pos 255 }
     ensures end { wrap Int64 (pos 9223372036854775808) ≡ negsuc 9223372036854775807 }
     ensures truth { wrap Bool (negsuc 4) ≡ pos 1 }
+{}
+
+/// Which extents there may be.
+pub fn limits_by_example()
+    ensures greatest { static_of (full 16777216 7) start.names ≡ Ok (record { dtype = Int64; shape = 16777216 ∷ [] }) }
+    ensures past { run (record { number = 3; statement = print (full 16777217 7) } ∷ []) ≡ record { text = []; end = fault_at 3 Limit } }
 {}
 
 /// Printed lists.

@@ -5,7 +5,7 @@ mod examples;
 mod fault;
 
 pub use examples::{
-    broadcasting_by_example, places_by_example, runs_by_example, texts_by_example,
-    wrapping_by_example,
+    broadcasting_by_example, limits_by_example, places_by_example, runs_by_example,
+    texts_by_example, wrapping_by_example,
 };
 pub use fault::FaultKind;

@@ -1,11 +1,10 @@
 use Rattle.std.proofs.Common.{◌≤◌, map, take}
 use Rattle.lg_grammar.specs.View.{line_of}
-use Rattle.legate.specs.Names.{environment}
 use Rattle.legate.proofs.Runs.{Reached}
 use Rattle.legate.proofs.running.run_script.Given as goal
 
 abbrev pub invariant-loop-line : goal.invariant-loop-line
 invariant-loop-line g l = record {
-  reached : Reached (environment l.names) (take l.line-index (map line_of l.script.lines)) (g.K.Sink.written l.fn.out) (g.K.Sink.written l.out);
+  reached : Reached l.session (take l.line-index (map line_of l.script.lines)) (g.K.Sink.written l.fn.out) (g.K.Sink.written l.out);
   later : g.K.Sink.faults l.fn.out ≤ g.K.Sink.faults l.out;
 }

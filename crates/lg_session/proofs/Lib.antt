@@ -1,0 +1,10 @@
+pub mod Placing
+pub mod Sums
+pub mod Broadcasts
+pub mod RowTiles
+pub mod Views
+pub mod Values
+pub mod States
+pub mod NameLemmas
+pub mod Printing
+pub mod Seen

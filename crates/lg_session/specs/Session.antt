@@ -1,0 +1,61 @@
+-- What performing a statement answers, and what it does to the session.
+use Rattle.std.specs.Prelude.{◌≡◌, ℕ, List, None, Some, Result, Ok, Err, ⊤, Vec}
+use Rattle.std.specs.declared.alloc.Global.{Global}
+use Rattle.lg_grammar.specs.Tree.{Tree, StatementTree, bind, print, LineTree}
+use Rattle.lg_meaning.specs.Memory.{State}
+use Rattle.lg_meaning.specs.Step.{step}
+use Rattle.lg_meaning.specs.declared.fault.FaultKind.{FaultKind}
+use Rattle.lg_session.specs.Standing.{Stands}
+use Rattle.lg_session.specs.declared.session.Session.{Session}
+use Rattle.lg_session.specs.declared.session.StopEnd.{StopEnd}
+use Rattle.lg_session.specs.declared.session.StopEnd.TheVariants.{Fault as FaultAt, NoMemory as NoRoom}
+use Rattle.lg_session.specs.declared.evaluation.EvaluateEnd.{EvaluateEnd}
+use Rattle.lg_session.specs.declared.evaluation.EvaluateEnd.TheVariants.{Fault, NoMemory}
+
+-- the statement has no fault, it prints this text, and the session stands for the state after it
+pub record Executes (statement : StatementTree) (state : State) (text : List ℕ) (session : Session) : Type 0 where
+  pub sound : (step statement state).fault ≡ None
+  pub printed : (step statement state).text ≡ text
+  pub stands : Stands session (step statement state).state
+
+-- the same of the statement of a line
+abbrev pub Performs : LineTree → State → List ℕ → Session → Type 0
+Performs line = Executes line.statement
+
+-- the line has this number, and its statement this fault
+pub record FaultsAt (line : LineTree) (state : State) (number : ℕ) (kind : FaultKind) : Type 0 where
+  pub line_number : line.number ≡ number
+  pub fault : (step line.statement state).fault ≡ Some kind
+
+-- why the statement of a line was not performed
+abbrev pub StopsAt : StopEnd → LineTree → State → Type 0
+StopsAt (FaultAt number kind) line state = FaultsAt line state number kind
+StopsAt NoRoom line state = ⊤
+
+-- the answer of a statement
+abbrev pub IsExecuted : StatementTree → State → Result (Vec ℕ Global) EvaluateEnd → Session → Type 0
+IsExecuted statement state (Ok text) session = Executes statement state text.items session
+IsExecuted statement state (Err (Fault kind)) session = (step statement state).fault ≡ Some kind
+IsExecuted statement state (Err NoMemory) session = ⊤
+
+-- the assignment has no fault, and the session stands for the state after it
+pub record Binds (w : List ℕ) (e : Tree) (state : State) (session : Session) : Type 0 where
+  pub sound : (step (bind w e) state).fault ≡ None
+  pub stands : Stands session (step (bind w e) state).state
+
+-- the answer of an assignment
+abbrev pub IsBound : List ℕ → Tree → State → Session → Result (Unit {0}) EvaluateEnd → Type 0
+IsBound w e state session (Ok _) = Binds w e state session
+IsBound w e state session (Err (Fault kind)) = (step (bind w e) state).fault ≡ Some kind
+IsBound w e state session (Err NoMemory) = ⊤
+
+-- the print has no fault, and prints this text
+pub record Prints (e : Tree) (state : State) (bytes : List ℕ) : Type 0 where
+  pub sound : (step (print e) state).fault ≡ None
+  pub same : (step (print e) state).text ≡ bytes
+
+-- the answer of a print
+abbrev pub IsText : Tree → State → Result (Vec ℕ Global) EvaluateEnd → Type 0
+IsText e state (Ok text) = Prints e state text.items
+IsText e state (Err (Fault kind)) = (step (print e) state).fault ≡ Some kind
+IsText e state (Err NoMemory) = ⊤
