@@ -12,7 +12,7 @@ use lg_outside::{Sink, write_all};
 use lg_session::{Session, StopEnd};
 use std::alloc::Global;
 
-/// Into about how many pieces an operation is cut. It never changes what a script prints.
+/// Into how many tiles an operation is cut at most. It never changes what a script prints.
 const PIECES: u32 = 4;
 
 /// Why a run stopped before its end.
@@ -57,9 +57,7 @@ pub fn run_script<K: Sink>(alloc: Global, script: &Script, out: &mut K) -> Resul
         return Err(RunStop::NoMemory);
     };
     for line in script.lines.as_slice() {
-        if let Err(stop) = run_line(alloc, line, &mut session, out) {
-            return Err(stop);
-        }
+        run_line(alloc, line, &mut session, out)?;
     }
     Ok(())
 }

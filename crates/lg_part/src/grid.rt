@@ -63,7 +63,7 @@ fn count_of_parts(size: u64, extent: u64) -> u64
 
 /// Cuts a shape into at most `pieces` tiles. An axis that is to stay whole has one part. The other ones are cut from the
 /// first axis on, each into as many parts as there are pieces left, where it is long enough, and all parts of an axis but
-/// its last one have the same extent.
+/// its last one have the same extent. The rule is this project's own.
 pub fn colors(pieces: u32, shape: &Shape, whole: &[bool; 4]) -> Grid
     requires some { 1 ≤ pieces }
     requires few { pieces ≤ 64 }

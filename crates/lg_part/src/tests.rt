@@ -29,16 +29,19 @@ fn has_tiles(alloc: Global, grid: &Grid, wanted: &[&[(u64, u64)]]) -> Result<boo
 }
 
 // Whether a grid of one axis has so many tiles, each of one number.
-fn has_single_numbers(grid: &Grid, count: u32) -> bool {
+fn has_single_numbers(alloc: Global, grid: &Grid, count: u32) -> Result<bool, NoMemory> {
+    let all = tiles(alloc, grid)?;
+    if all.len() != count as usize || grid.count() != count {
+        return Ok(false);
+    }
     for color in 0..grid.count() {
-        if !has_ranges(
-            &grid.tile(color),
-            &[(u64::from(color), u64::from(color) + 1)],
-        ) {
-            return false;
+        let number = u64::from(color);
+        let ranges = [(number, number + 1)];
+        if !has_ranges(&all[color as usize], &ranges) || !has_ranges(&grid.tile(color), &ranges) {
+            return Ok(false);
         }
     }
-    grid.count() == count
+    Ok(true)
 }
 
 #[test]
@@ -53,11 +56,11 @@ fn cuts_one_axis(rt: HostRuntime) -> Result<(), Fail> {
         )?
     );
     assert!(rt; has_tiles(alloc, &colors(1, &ten, &NONE), &[&[(0, 10)]])?);
-    assert!(rt; has_single_numbers(&colors(64, &ten, &NONE), 10));
+    assert!(rt; has_single_numbers(alloc, &colors(64, &ten, &NONE), 10)?);
     assert!(rt; has_tiles(alloc, &colors(64, &ten, &FIRST), &[&[(0, 10)]])?);
 
-    assert!(rt; has_single_numbers(&colors(28, &Shape::new(&[28]), &NONE), 28));
-    assert!(rt; has_single_numbers(&colors(4, &Shape::new(&[2]), &NONE), 2));
+    assert!(rt; has_single_numbers(alloc, &colors(28, &Shape::new(&[28]), &NONE), 28)?);
+    assert!(rt; has_single_numbers(alloc, &colors(4, &Shape::new(&[2]), &NONE), 2)?);
     assert!(rt; has_tiles(alloc, &colors(4, &Shape::new(&[0]), &NONE), &[&[(0, 0)]])?);
     Ok(())
 }
@@ -88,5 +91,18 @@ fn cuts_several_axes_or_none(rt: HostRuntime) -> Result<(), Fail> {
     assert!(rt; has_tiles(alloc, &colors(4, &Shape::new(&[4, 4]), &FIRST), &columns)?);
 
     assert!(rt; has_tiles(alloc, &colors(4, &Shape::new(&[]), &NONE), &[&[]])?);
+    Ok(())
+}
+
+// What threads may hold.
+fn crosses_threads<T: Send + Sync>() {}
+
+// The laws have no body; that they can be called is all that there is to try.
+#[test]
+fn laws_and_threads(_rt: HostRuntime) -> Result<(), Fail> {
+    laws::tiles_partition();
+    laws::tiles_count();
+    laws::parts_filled();
+    crosses_threads::<Grid>();
     Ok(())
 }

@@ -96,29 +96,52 @@ module _ (tiles : List (List (ℕ × ℕ))) (i : ℕ) (tile : List (ℕ × ℕ))
   next_tile low high ends = next_from (drop (i + 1) tiles) tile from low high to ends here
 
 -- what the tiles so far cover is in place
-pub record Covers {T : Type 0} (number : T → ℤ) (out : List T) (target : List ℤ) (left : List (List (ℕ × ℕ))) : Type 0 where
+pub record IsFilled {T : Type 0} (number : T → ℤ) (out : List T) (target : List ℤ) (left : List (List (ℕ × ℕ))) : Type 0 where
   pub covered : ℕ
   pub follow : Follow covered left (length out)
   pub placed : take covered (map number out) ≡ take covered target
 
 module _ {T : Type 0} (number : T → ℤ) (out : List T) (target : List ℤ) (tiles : List (List (ℕ × ℕ))) where
-  pub covers_none : Follow 0 tiles (length out) → Covers number out target tiles
+  -- the next tile begins where the ones before it ended
+  covers_next : (i : ℕ) (tile : List (ℕ × ℕ)) (low high : ℕ) (c : IsFilled number out target (drop i tiles)) → i < length tiles → tile ≡ get_or tiles i tile
+      → tile ≡ (low, high) ∷ [] → NextTile c.covered low high (length out) (drop (i + 1) tiles)
+  covers_next i tile low high c within is ends = next_tile tiles i tile c.covered (length out) within is c.follow low high ends
+
+  -- its ends are within the array
+  pub low_within : (i : ℕ) (tile : List (ℕ × ℕ)) (low high n : ℕ) → IsFilled number out target (drop i tiles) → i < length tiles → tile ≡ get_or tiles i tile
+      → tile ≡ (low, high) ∷ [] → length out ≡ n → low ≤ n
+  low_within i tile low high n c within is ends size =
+      let next = covers_next i tile low high c within is ends in
+      omega (arith, next.ordered, next.within)
+
+  pub high_within : (i : ℕ) (tile : List (ℕ × ℕ)) (low high n : ℕ) → IsFilled number out target (drop i tiles) → i < length tiles → tile ≡ get_or tiles i tile
+      → tile ≡ (low, high) ∷ [] → length out ≡ n → high ≤ n
+  high_within i tile low high n c within is ends size =
+      let next = covers_next i tile low high c within is ends in
+      omega (arith, next.within)
+
+  pub covers_none : Follow 0 tiles (length out) → IsFilled number out target tiles
   covers_none follow = record { covered = 0; follow = follow; placed = refl }
 
   -- one more tile
-  pub covers_more : (i low high : ℕ) (part : List T) (c : Covers number out target (drop i tiles)) → NextTile c.covered low high (length out) (drop (i + 1) tiles)
-      → length part ≡ high - low → map number part ≡ slice_range target low high → Covers number (put_mid low (high - low) out part) target (drop (i + 1) tiles)
-  covers_more i low high part c next size same =
+  pub covers_more : (i : ℕ) (tile : List (ℕ × ℕ)) (low high : ℕ) (part : List T) → IsFilled number out target (drop i tiles) → i < length tiles → tile ≡ get_or tiles i tile
+      → tile ≡ (low, high) ∷ [] → length part ≡ length (slice_range out low high)
+      → ((length (slice_range out low high) ≡ high - low) → low ≤ high → high ≤ length out → map number part ≡ slice_range target low high)
+      → IsFilled number (put_mid low (high - low) out part) target (drop (i + 1) tiles)
+  covers_more i tile low high part c within is ends kept same =
+      let next = covers_next i tile low high c within is ends in
+      let size = length-between out low high next.within in
       let P : ℕ → Type 0 = λ n. take n (map number out) ≡ take n target in
       let Q : ℕ → Type 0 = λ n. Follow high (drop (i + 1) tiles) n in
       record {
         covered = high;
-        follow = subst Q (sym (length-put_mid low high out part next.ordered next.within size)) next.follow;
-        placed = placed_tile number out part target low high next.ordered next.within size (subst P (sym next.begins) c.placed) same;
+        follow = subst Q (sym (length-put_mid low high out part next.ordered next.within (kept ∙ size))) next.follow;
+        placed = placed_tile number out part target low high next.ordered next.within (kept ∙ size) (subst P (sym next.begins) c.placed)
+            (same size next.ordered next.within);
       }
 
   -- all tiles
-  pub covers_all : (i : ℕ) → length tiles ≤ i → length target ≡ length out → Covers number out target (drop i tiles) → map number out ≡ target
+  pub covers_all : (i : ℕ) → length tiles ≤ i → length target ≡ length out → IsFilled number out target (drop i tiles) → map number out ≡ target
   covers_all i past size c =
       let P : List (List (ℕ × ℕ)) → Type 0 = λ l. Follow c.covered l (length out) in
       let end : c.covered ≡ length out = subst P (drop_all i tiles past) c.follow in

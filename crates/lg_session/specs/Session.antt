@@ -12,6 +12,10 @@ use Rattle.lg_session.specs.declared.session.StopEnd.TheVariants.{Fault as Fault
 use Rattle.lg_session.specs.declared.evaluation.EvaluateEnd.{EvaluateEnd}
 use Rattle.lg_session.specs.declared.evaluation.EvaluateEnd.TheVariants.{Fault, NoMemory}
 
+-- into how many tiles an operation is cut at most
+abbrev pub pieces_of : Session → ℕ
+pieces_of session = session.pieces
+
 -- the statement has no fault, it prints this text, and the session stands for the state after it
 pub record Executes (statement : StatementTree) (state : State) (text : List ℕ) (session : Session) : Type 0 where
   pub sound : (step statement state).fault ≡ None

@@ -33,6 +33,7 @@ pub fn add<T: Elem>(
     let Some(extent) = common_extent(left.len(), right.len()) else {
         return Err(EvaluateEnd::Fault(FaultKind::Shape));
     };
+    // An element is 0 until its tile is evaluated.
     let mut out = vec![in alloc; T::wrap(0); extent]?;
     let tiles = row_tiles(alloc, pieces, extent)?;
     add_tiles(&mut out, &tiles, left, right);

@@ -23,6 +23,7 @@ pub fn full<T: Elem>(
     requires short { extent ≤ MAX_EXTENT }
     ensures { IfOk result (λ whole. whole ≡ replicate extent (T.number element)) }
 {
+    // An element is 0 until its tile is evaluated.
     let mut out = vec![in alloc; T::wrap(0); extent]?;
     let tiles = row_tiles(alloc, pieces, extent)?;
     fill_tiles(&mut out, &tiles, element);

@@ -1,4 +1,4 @@
-//! What runs for each element. Each loop reads and writes slices by one index, so that it is compiled to vector code.
+//! What runs for each element. Each loop reads and writes slices by one index, so that it can be compiled to vector code.
 ghost use Rattle.std.specs.Prelude.{◌≡◌, length, map, replicate, Some};
 ghost use Rattle.lg_shape.specs.Shapes.{joined_extent};
 ghost use Rattle.lg_meaning.specs.Value.{sums};

@@ -11,8 +11,8 @@ use lg_meaning::FaultKind;
 use lg_outside::NoMemory;
 use std::alloc::Global;
 
-/// Evaluates statements one after another. It keeps the arrays that names stand for, and into how many pieces an
-/// operation is cut. What the statements mean is defined in `lg_meaning`; the number of pieces never changes it.
+/// Evaluates statements one after another. It keeps the arrays that names stand for, and into how many tiles an
+/// operation is cut at most. What the statements mean is defined in `lg_meaning`; the number of pieces never changes it.
 #[derive(Drop)]
 pub struct Session {
     pub(crate) pieces: u32,
@@ -49,14 +49,15 @@ pub enum StopEnd {
 
 impl Session {
     ghost use Rattle.lg_session.specs.Standing.{Stands};
-    ghost use Rattle.lg_session.specs.Session.{Performs, StopsAt, IsExecuted, IsBound, IsText};
+    ghost use Rattle.lg_session.specs.Session.{Performs, StopsAt, IsExecuted, IsBound, IsText, pieces_of};
 
-    /// A session in which no name is bound, and which cuts each operation into about so many pieces. It takes no memory
+    /// A session in which no name is bound, and which cuts each operation into at most so many tiles. It takes no memory
     /// yet.
     pub fn new(alloc: Global, pieces: u32) -> Result<Session, NoMemory>
         requires least { 1 ≤ pieces }
         requires most { pieces ≤ 64 }
         ensures start { IfOk result (λ session. Stands session start) }
+        ensures pieces { IfOk result (λ session. pieces_of session ≡ pieces) }
         ensures succeeds { IsOk result }
     {
         Ok(Session {
@@ -75,6 +76,7 @@ impl Session {
             Performs (line_of line.now) state text.items self.new) }
         ensures stopped { IfErr result (λ stop. (state : State) → Stands self.old state → StopsAt stop.end (line_of line.now) state) }
         ensures quiet { IfErr result (λ stop. stop.log.items ≡ []) }
+        ensures pieces { pieces_of self.new ≡ pieces_of self.old }
         ensures unchanged { OnErr result ((state : State) → Stands self.old state → Stands self.new state) }
     {
         match self.execute(alloc, &line.statement) {
@@ -96,6 +98,7 @@ impl Session {
     // Performs a statement, and gives the text that it prints.
     fn execute(&mut self, alloc: Global, statement: &Statement) -> Result<Vec<u8>, EvaluateEnd>
         ensures outcome { (state : State) → Stands self.old state → IsExecuted (statement_of statement.now) state result self.new }
+        ensures pieces { pieces_of self.new ≡ pieces_of self.old }
         ensures unchanged { OnErr result ((state : State) → Stands self.old state → Stands self.new state) }
     {
         match statement {
@@ -110,6 +113,7 @@ impl Session {
     // Lets a name stand for the value of an expression, which is computed first.
     fn bind(&mut self, alloc: Global, word: &[u8], value: &Expr) -> Result<(), EvaluateEnd>
         ensures outcome { (state : State) → Stands self.old state → IsBound word.now (tree_of value.now) state self.new result }
+        ensures pieces { pieces_of self.new ≡ pieces_of self.old }
         ensures unchanged { OnErr result ((state : State) → Stands self.old state → Stands self.new state) }
     {
         let array = evaluate(alloc, self, value)?;

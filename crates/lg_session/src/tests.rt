@@ -1,8 +1,9 @@
 //! Scripts line by line, with what each line must print or which fault it must have.
+use crate::text::printed_list;
 use crate::{Session, StopEnd};
 use lg_grammar::read_script;
 use lg_meaning::FaultKind;
-use std::alloc::Global;
+use std::alloc::{AllocError, Global};
 use std::process::Abort;
 use std::test::Fail;
 
@@ -80,5 +81,52 @@ fn lines_answer_alike_in_any_number_of_pieces(rt: HostRuntime) -> Result<(), Fai
             try_row(&rt, rt.alloc(), row, pieces)?;
         }
     }
+    Ok(())
+}
+
+// What `print` writes of so many elements that are all the same.
+fn repeated(alloc: Global, number: &[u8], count: usize) -> Result<Vec<u8>, AllocError> {
+    let mut text = Vec::from_slice(alloc, b"[")?;
+    for i in 0..count {
+        if i > 0 {
+            text.extend_from_slice(b", ")?;
+        }
+        text.extend_from_slice(number)?;
+    }
+    text.extend_from_slice(b"]\n")?;
+    Ok(text)
+}
+
+// Tiles of many elements, the last one shorter: 64 pieces of 5000 have 79 elements each, and 23 at the end.
+#[test]
+fn long_arrays_are_summed_whole(rt: HostRuntime) -> Result<(), Fail> {
+    let alloc = rt.alloc();
+    let script = read_script(
+        alloc,
+        b"a = full(5000, 7)\nprint(a + full(1, 5))\nprint(full(1, 5) + a)\nprint(a + a)",
+    )?;
+    let numbers: [&[u8]; 4] = [b"", b"12", b"12", b"14"];
+    for pieces in [1, 3, 64] {
+        let mut session = Session::new(alloc, pieces)?;
+        for (line, number) in script.lines.as_slice().iter().zip(&numbers) {
+            let wanted = if number.is_empty() {
+                Vec::new(alloc)
+            } else {
+                repeated(alloc, number, 5000)?
+            };
+            match session.step(alloc, line) {
+                Ok(text) => assert!(rt; text.as_slice() == wanted.as_slice()),
+                Err(_) => panic!(rt; "{pieces} pieces"),
+            }
+        }
+    }
+    Ok(())
+}
+
+// Numbers above those of int64 are printed whole, too.
+#[test]
+fn prints_the_greatest_numbers(rt: HostRuntime) -> Result<(), Fail> {
+    let text = printed_list(rt.alloc(), &[u64::MAX, 0])?;
+    assert_eq!(rt; text.as_slice(), b"[18446744073709551615, 0]\n".as_slice());
     Ok(())
 }

@@ -1,5 +1,6 @@
 //! Into which tiles an array with one axis is cut, and what of an operand belongs to a tile.
-ghost use Rattle.std.specs.Prelude.{◌≡◌, ◌≤◌, [], ◌∷◌, length, IfOk};
+ghost use Rattle.std.specs.Prelude.{◌≡◌, ◌≤◌, false, [], ◌∷◌, length, IfOk};
+ghost use Rattle.lg_shape.specs.Tiling.{tiles as tiles_of};
 ghost use Rattle.lg_meaning.specs.Value.{MAX_EXTENT};
 ghost use Rattle.lg_session.specs.Tiles.{Follow, part_of};
 
@@ -9,12 +10,13 @@ use lg_shape::Shape;
 use lg_space::AnyRect;
 use std::alloc::Global;
 
-/// The tiles of an array with one axis, from its first element to its last one.
+/// The tiles of an array with one axis by the tiling rule, from its first element to its last one.
 pub fn row_tiles(alloc: Global, pieces: u32, extent: usize) -> Result<Vec<AnyRect>, NoMemory>
     requires some { 1 ≤ pieces }
     requires few { pieces ≤ 64 }
     requires short { extent ≤ MAX_EXTENT }
-    ensures { IfOk result (λ all. Follow 0 all.items extent) }
+    ensures rule { IfOk result (λ all. all.items ≡ tiles_of pieces (extent ∷ []) (false ∷ false ∷ false ∷ false ∷ [])) }
+    ensures follow { IfOk result (λ all. Follow 0 all.items extent) }
 {
     let shape = Shape::new(&[extent as u64]);
     tiles(alloc, &colors(pieces, &shape, &[false; 4]))

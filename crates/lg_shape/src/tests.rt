@@ -17,3 +17,12 @@ fn extents(rt: HostRuntime) -> Result<(), Fail> {
     assert!(rt; Shape::new(&[4]) != Shape::new(&[4, 1]) && Shape::new(&[4]) == Shape::new(&[4]));
     Ok(())
 }
+
+// What threads may hold.
+fn crosses_threads<T: Send + Sync>() {}
+
+#[test]
+fn shapes_cross_threads(_rt: HostRuntime) -> Result<(), Fail> {
+    crosses_threads::<Shape>();
+    Ok(())
+}

@@ -103,12 +103,13 @@ impl AnyRect {
         is_between(self.lows(), self.highs(), p.coordinates())
     }
 
-    /// The indices that are in both rectangles.
+    /// The indices that are in both rectangles. Where there is none, which empty rectangle is answered is not told.
     pub fn intersect(&self, other: &AnyRect) -> AnyRect
         requires { length self.now ≡ length other.now }
         ensures axes { length result ≡ length self.now }
         ensures both { (index : List ℕ) → IsIn result index ↔ (IsIn self.now index × IsIn other.now index) }
     {
+        // They have as many axes: asking both tells the limits of both.
         let axes = self.axes().min(other.axes());
         let mut ranges = [(0, 0); 4];
         for axis in 0..axes {
@@ -117,7 +118,8 @@ impl AnyRect {
         AnyRect::new(&ranges[..axes])
     }
 
-    /// How many indices come before this one in row-major order, in which the last axis runs fastest.
+    /// How many indices come before this one in row-major order, in which the last axis runs fastest (NumPy's reference,
+    /// "numpy.ravel_multi_index").
     pub fn ravel(&self, p: &Point) -> u64
         requires { IsIn self.now p.now }
         ensures value { result ≡ place_in self.now p.now }
@@ -131,7 +133,7 @@ impl AnyRect {
         place
     }
 
-    /// The index at this place in row-major order.
+    /// The index at this place in row-major order (NumPy's reference, "numpy.unravel_index").
     pub fn unravel(&self, k: u64) -> Point
         requires { k < volume_of self.now }
         ensures place { slice_get (indices self.now) k ≡ Some result }

@@ -51,3 +51,13 @@ fn what_two_rectangles_share(rt: HostRuntime) -> Result<(), Fail> {
     assert!(rt; AnyRect::new(&[]) != AnyRect::new(&[(0, 1)]));
     Ok(())
 }
+
+// What threads may hold.
+fn crosses_threads<T: Send + Sync>() {}
+
+#[test]
+fn points_and_rectangles_cross_threads(_rt: HostRuntime) -> Result<(), Fail> {
+    crosses_threads::<Point>();
+    crosses_threads::<AnyRect>();
+    Ok(())
+}

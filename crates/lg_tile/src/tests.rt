@@ -99,8 +99,6 @@ fn crosses_threads<T: Send + Sync>() {}
 
 #[test]
 fn tiles_cross_threads(_rt: HostRuntime) -> Result<(), Fail> {
-    crosses_threads::<Point>();
-    crosses_threads::<AnyRect>();
     crosses_threads::<Tile<bool>>();
     crosses_threads::<Tile<i64>>();
     crosses_threads::<AnyTile>();
