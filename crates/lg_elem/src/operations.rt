@@ -122,6 +122,17 @@ mod tests {
         Ok(())
     }
 
+    // What threads may hold.
+    fn crosses_threads<T: Send + Sync>() {}
+
+    #[test]
+    fn types_and_operations_cross_threads(_rt: HostRuntime) -> Result<(), Fail> {
+        crosses_threads::<DType>();
+        crosses_threads::<Binary>();
+        crosses_threads::<Flag>();
+        Ok(())
+    }
+
     // The laws have no body; that they can be called is all that there is to try.
     #[test]
     fn laws(_rt: HostRuntime) -> Result<(), Fail> {

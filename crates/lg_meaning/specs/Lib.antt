@@ -8,3 +8,4 @@ pub use Rattle.lg_grammar.specs.Script
 pub use Rattle.lg_elem.specs.Types
 pub use Rattle.lg_elem.specs.Operations
 pub use Rattle.lg_shape.specs.Shapes
+pub use Rattle.lg_shape.specs.Tiling

@@ -61,9 +61,10 @@ fn count_of_parts(size: u64, extent: u64) -> u64
     extent.div_ceil(size).max(1)
 }
 
-/// Cuts a shape into at most `pieces` tiles. An axis that is to stay whole has one part. The other ones are cut from the
-/// first axis on, each into as many parts as there are pieces left, where it is long enough, and all parts of an axis but
-/// its last one have the same extent. The rule is this project's own.
+/// Cuts a shape into at most `pieces` tiles, from its first axis on. An axis that is to stay whole has one part. On any
+/// other one the parts have the least extent with which as many of them as there are pieces left reach the end of the axis;
+/// there are just so many as it then takes, and the last one may be shorter. For the axes behind it the pieces that were
+/// left are divided by the number of its parts, rounded down. The rule is this project's own.
 pub fn colors(pieces: u32, shape: &Shape, whole: &[bool; 4]) -> Grid
     requires some { 1 ≤ pieces }
     requires few { pieces ≤ 64 }

@@ -94,6 +94,69 @@ fn cuts_several_axes_or_none(rt: HostRuntime) -> Result<(), Fail> {
     Ok(())
 }
 
+// Four pieces give an axis of 5 only three parts, and then no piece is left to share; an empty axis takes no piece.
+#[test]
+fn shares_the_pieces_that_are_left(rt: HostRuntime) -> Result<(), Fail> {
+    let alloc = rt.alloc();
+    let three_rows = [
+        [(0, 2), (0, 2)].as_slice(),
+        &[(2, 4), (0, 2)],
+        &[(4, 5), (0, 2)],
+    ];
+    assert!(rt; has_tiles(alloc, &colors(4, &Shape::new(&[5, 2]), &NONE), &three_rows)?);
+
+    let no_rows = [
+        [(0, 0), (0, 2)].as_slice(),
+        &[(0, 0), (2, 4)],
+        &[(0, 0), (4, 6)],
+    ];
+    assert!(rt; has_tiles(alloc, &colors(4, &Shape::new(&[0, 6]), &NONE), &no_rows)?);
+    Ok(())
+}
+
+#[test]
+fn cuts_around_a_whole_axis(rt: HostRuntime) -> Result<(), Fail> {
+    let middle = [false, true, false, false];
+    let six = [
+        [(0, 1), (0, 5), (0, 1)].as_slice(),
+        &[(0, 1), (0, 5), (1, 2)],
+        &[(1, 2), (0, 5), (0, 1)],
+        &[(1, 2), (0, 5), (1, 2)],
+        &[(2, 3), (0, 5), (0, 1)],
+        &[(2, 3), (0, 5), (1, 2)],
+    ];
+    assert!(rt;
+        has_tiles(
+            rt.alloc(),
+            &colors(12, &Shape::new(&[3, 5, 2]), &middle),
+            &six
+        )?
+    );
+    Ok(())
+}
+
+#[test]
+fn cuts_four_axes(rt: HostRuntime) -> Result<(), Fail> {
+    let eight = [
+        [(0, 1), (0, 1), (0, 1), (0, 2)].as_slice(),
+        &[(0, 1), (0, 1), (1, 2), (0, 2)],
+        &[(0, 1), (1, 2), (0, 1), (0, 2)],
+        &[(0, 1), (1, 2), (1, 2), (0, 2)],
+        &[(1, 2), (0, 1), (0, 1), (0, 2)],
+        &[(1, 2), (0, 1), (1, 2), (0, 2)],
+        &[(1, 2), (1, 2), (0, 1), (0, 2)],
+        &[(1, 2), (1, 2), (1, 2), (0, 2)],
+    ];
+    assert!(rt;
+        has_tiles(
+            rt.alloc(),
+            &colors(8, &Shape::new(&[2, 2, 2, 2]), &NONE),
+            &eight
+        )?
+    );
+    Ok(())
+}
+
 // What threads may hold.
 fn crosses_threads<T: Send + Sync>() {}
 

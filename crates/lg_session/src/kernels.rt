@@ -24,9 +24,9 @@ pub fn add_along<T: Elem>(out: &mut [T], left: &[T], right: &[T])
     if left.len() == right.len() {
         add_each(out, left, right);
     } else if left.len() == 1 {
-        add_to_each(out, left[0], right);
+        add_one_to_right(out, left[0], right);
     } else {
-        add_each_to(out, left, right[0]);
+        add_one_to_left(out, left, right[0]);
     }
 }
 
@@ -41,8 +41,8 @@ fn add_each<T: Elem>(out: &mut [T], left: &[T], right: &[T])
     }
 }
 
-// One element and each of a slice.
-fn add_to_each<T: Elem>(out: &mut [T], x: T, right: &[T])
+// One element on the left, and each on the right.
+fn add_one_to_right<T: Elem>(out: &mut [T], x: T, right: &[T])
     requires { length right.now ≡ length out.old }
     ensures { map T.number out.new ≡ sums T.DTYPE (replicate (length out.old) (T.number x)) (map T.number right.now) }
 {
@@ -51,8 +51,8 @@ fn add_to_each<T: Elem>(out: &mut [T], x: T, right: &[T])
     }
 }
 
-// Each element of a slice and one.
-fn add_each_to<T: Elem>(out: &mut [T], left: &[T], y: T)
+// Each element on the left, and one on the right.
+fn add_one_to_left<T: Elem>(out: &mut [T], left: &[T], y: T)
     requires { length left.now ≡ length out.old }
     ensures { map T.number out.new ≡ sums T.DTYPE (map T.number left.now) (replicate (length out.old) (T.number y)) }
 {

@@ -109,8 +109,9 @@ impl AnyRect {
         ensures axes { length result ≡ length self.now }
         ensures both { (index : List ℕ) → IsIn result index ↔ (IsIn self.now index × IsIn other.now index) }
     {
-        // They have as many axes: asking both tells the limits of both.
-        let axes = self.axes().min(other.axes());
+        let axes = self.axes();
+        let same = axes == other.axes();
+        prove!(same);
         let mut ranges = [(0, 0); 4];
         for axis in 0..axes {
             ranges[axis] = common(self.range(axis), other.range(axis));

@@ -68,17 +68,7 @@ impl AnyTile {
     pub fn dtype(&self) -> DType
         ensures { result ≡ dtype_of self.now }
     {
-        match self {
-            AnyTile::Bool(_) => DType::Bool,
-            AnyTile::Int8(_) => DType::Int8,
-            AnyTile::Int16(_) => DType::Int16,
-            AnyTile::Int32(_) => DType::Int32,
-            AnyTile::Int64(_) => DType::Int64,
-            AnyTile::UInt8(_) => DType::UInt8,
-            AnyTile::UInt16(_) => DType::UInt16,
-            AnyTile::UInt32(_) => DType::UInt32,
-            AnyTile::UInt64(_) => DType::UInt64,
-        }
+        each!(self, tile => element_type(tile))
     }
 
     /// The rectangle. There are as many elements as it has indices.
@@ -129,6 +119,13 @@ impl AnyTile {
             AnyTile::UInt64(tile) => AnyTile::UInt64(tile.copied(alloc)?),
         })
     }
+}
+
+// The type of a typed tile's elements.
+fn element_type<T: Elem>(_tile: &Tile<T>) -> DType
+    ensures { result ≡ T.DTYPE }
+{
+    T::DTYPE
 }
 
 // The element of a number that the type has.

@@ -78,6 +78,22 @@ fn numbers_of_every_type(rt: HostRuntime) -> Result<(), Fail> {
     Ok(())
 }
 
+// The tile of `full(3, 7)`.
+#[test]
+fn copies_a_row(rt: HostRuntime) -> Result<(), Fail> {
+    let alloc = rt.alloc();
+    let rect = AnyRect::new(&[(0, 3)]);
+    let copy = AnyTile::filled(alloc, DType::Int64, &rect, 7)?.copied(alloc)?;
+    assert_eq!(rt; copy.dtype(), DType::Int64);
+    assert_eq!(rt; *copy.rect(), rect);
+    for i in 0..3 {
+        let p = Point::new(&[i]);
+        assert!(rt; copy.rect().contains(&p));
+        assert_eq!(rt; copy.at(&p), 7);
+    }
+    Ok(())
+}
+
 #[test]
 fn elements_as_a_slice(rt: HostRuntime) -> Result<(), Fail> {
     let alloc = rt.alloc();

@@ -14,7 +14,7 @@ returns-then-left-right g c =
 pub returns-then-left-eq1 : goal.returns-then-left-eq1
 returns-then-left-eq1 g c =
     let whole = joined_left _ _ _ c.requires c.if-left-eq1.true in
-    c.add_to_each.ensures
+    c.add_one_to_right.ensures
     ∙ ap (λ n. sums g.T.Elem.DTYPE (replicate (length c.args.out.now) n) (map g.T.Elem.number c.args.right.now))
     (number_read g.T.Elem.number c.args.left.now 0 c.index-left-0.result (omega arith) c.index-left-0.is)
     ∙ sym (along_right g.T.Elem.DTYPE (map g.T.Elem.number c.args.left.now) (map g.T.Elem.number c.args.right.now) (length c.args.out.now)
@@ -24,7 +24,7 @@ pub returns-else-left-eq1 : goal.returns-else-left-eq1
 returns-else-left-eq1 g c =
     let one = joined_right _ _ _ c.requires c.if-left-right.false c.if-left-eq1.false in
     let whole = joined_right_whole _ _ _ c.requires c.if-left-right.false c.if-left-eq1.false in
-    c.add_each_to.ensures
+    c.add_one_to_left.ensures
     ∙ ap (λ n. sums g.T.Elem.DTYPE (map g.T.Elem.number c.args.left.now) (replicate (length c.args.out.now) n))
     (number_read g.T.Elem.number c.args.right.now 0 c.index-right-0.result (omega arith) c.index-right-0.is)
     ∙ sym (along_left g.T.Elem.DTYPE (map g.T.Elem.number c.args.left.now) (map g.T.Elem.number c.args.right.now) (length c.args.out.now)

@@ -2,7 +2,7 @@ use Rattle.std.proofs.Common.{arith, map, replicate, length, pos, sym}
 use Rattle.std.proofs.lemmas.List.{length-map, length-replicate, get_or-replicate}
 use Rattle.lg_session.proofs.Placing.{number_read}
 use Rattle.lg_session.proofs.Sums.{sums_more, sums_all}
-use Rattle.lg_session.proofs.kernels.add_each_to.Goals as goal
+use Rattle.lg_session.proofs.kernels.add_one_to_left.Goals as goal
 
 pub loop-i-preserved : goal.loop-i-preserved
 loop-i-preserved g c =
