@@ -62,9 +62,9 @@ fn count_of_parts(size: u64, extent: u64) -> u64
 }
 
 /// Cuts a shape into at most `pieces` tiles, from its first axis on. An axis that is to stay whole has one part. On any
-/// other one the parts have the least extent with which as many of them as there are pieces left reach the end of the axis;
-/// there are just so many as it then takes, and the last one may be shorter. For the axes behind it the pieces that were
-/// left are divided by the number of its parts, rounded down. The rule is this project's own.
+/// other one the parts have the least extent, from 1 on, with which as many of them as there are pieces left reach the end
+/// of the axis; there are just so many as it then takes, at least one, and the last one may be shorter. For the axes behind
+/// it the pieces that were left are divided by the number of its parts, rounded down. The rule is this project's own.
 pub fn colors(pieces: u32, shape: &Shape, whole: &[bool; 4]) -> Grid
     requires some { 1 ≤ pieces }
     requires few { pieces ≤ 64 }
