@@ -4,7 +4,8 @@ use Rattle.std.specs.Io.KnownBytes.{Appends}
 use Rattle.std.proofs.KnownBytes.{Appends-trans}
 use Rattle.lg_outside.specs.Outside.{AppendsPart}
 
-lacks : (xs ys : List ℕ) → xs ≢ [] → xs ++ ys ≢ []
+-- what is not empty is not empty before more
+pub lacks : (xs ys : List ℕ) → xs ≢ [] → xs ++ ys ≢ []
 lacks [] ys h e = h refl
 lacks (x ∷ xs) ys h e = cc
 

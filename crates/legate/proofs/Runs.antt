@@ -1,5 +1,5 @@
 -- A run, statement by statement.
-use Rattle.std.proofs.Common.{◌≡◌, ◌≢◌, ℕ, ◌+◌, ◌<◌, ◌≤◌, suc, List, [], ◌∷◌, ◌++◌, Option, None, refl, sym, ap, subst, ◌∙◌, append_assoc, append-nil, take, drop, map, get_or, length}
+use Rattle.std.proofs.Common.{◌≡◌, ℕ, ◌+◌, ◌<◌, ◌≤◌, suc, List, [], ◌∷◌, ◌++◌, Option, None, refl, sym, ap, subst, ◌∙◌, append_assoc, append-nil, take, drop, map, get_or, length}
 use Rattle.std.proofs.lemmas.List.{take_all, take_more, take-map, map-append}
 use Rattle.std.proofs.Math.Seq.{split_at}
 use Rattle.std.specs.Io.KnownBytes.{Appends}
@@ -18,6 +18,7 @@ use Rattle.lg_session.specs.Session.{FaultsAt, StopsAt}
 use Rattle.lg_session.specs.declared.session.Session.{Session}
 use Rattle.lg_session.specs.declared.session.StopEnd.{StopEnd}
 use Rattle.lg_session.specs.declared.session.StopEnd.TheVariants.{Fault as FaultAt, NoMemory as NoRoom}
+use Rattle.legate.proofs.PartLemmas.{lacks}
 
 -- the statements have no fault, print this text and lead from one state to the other
 pub data Reaches : State → List LineTree → List ℕ → State → Type 0 where
@@ -46,10 +47,6 @@ run-append {s} {t} (there line {lines = lines} {text = text} fine rest) others =
     run_sound line.number (step line.statement s).text (step line.statement s).fault (run_from (lines ++ others) (step line.statement s).state) fine
     ∙ ap (λ (r : Run). record { text = (step line.statement s).text ++ r.text; end = r.end }) (run-append rest others)
     ∙ ap (λ (l : List ℕ). record { text = l; end = (run_from others t).end }) (sym (append_assoc (step line.statement s).text text (run_from others t).text))
-
-lacks : (xs ys : List ℕ) → xs ≢ [] → xs ++ ys ≢ []
-lacks [] ys h e = h refl
-lacks (x ∷ xs) ys h e = cc
 
 -- the statements have no fault, what they print was appended, and the session stands for the state after them
 pub record Reached (session : Session) (lines : List LineTree) (old new : Option (List ℕ)) : Type 0 where

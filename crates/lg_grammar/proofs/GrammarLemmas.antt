@@ -110,9 +110,6 @@ pub goes_of : {a e : Tree} {vs : List Token} → Continues a vs e → Goes a vs 
 goes_of stops = ends refl refl
 goes_of (goes_on {b = b} {us = us} {vs = vs} h more) = adds us vs b refl h more
 
-plus_clash : (vs rest us ws x : List Token) → vs ≡ [] → vs ++ rest ≡ (plus ∷ (us ++ ws)) ++ x → rest ≡ plus ∷ ((us ++ ws) ++ x)
-plus_clash vs rest us ws x e h = ap (λ (z : List Token). z ++ rest) (sym e) ∙ h
-
 plus_tail : (vs ws us xs a b c d : List Token) → vs ≡ plus ∷ (us ++ a) → ws ≡ plus ∷ (xs ++ b) → vs ++ c ≡ ws ++ d → us ++ (a ++ c) ≡ xs ++ (b ++ d)
 plus_tail vs ws us xs a b c d p q e =
     let h : plus ∷ ((us ++ a) ++ c) ≡ plus ∷ ((xs ++ b) ++ d) = swap_front vs ws (plus ∷ (us ++ a)) (plus ∷ (xs ++ b)) c d e p q in
@@ -237,14 +234,11 @@ pub statement_of_tokens : {ts : List Token} {s : StatementTree} → SpellsStatem
 statement_of_tokens (a_bind {w = w} {ts = us} {e = e} h k low) = bound w us e h refl refl k low
 statement_of_tokens (a_print {ts = us} {e = e} k low) = printed us e refl refl k low
 
-end_no_plus : BeginsNoPlus []
+pub end_no_plus : BeginsNoPlus []
 end_no_plus ts e = cc
 
-closing_no_plus : (rest : List Token) → BeginsNoPlus (closing ∷ rest)
+pub closing_no_plus : (rest : List Token) → BeginsNoPlus (closing ∷ rest)
 closing_no_plus rest ts e = cc
-
-nil_sum : (us : List Token) → us ++ [] ≡ us
-nil_sum us = append-nil us
 
 bind_tail : (w v : List ℕ) (us vs : List Token) → word w ∷ equals ∷ us ≡ word v ∷ equals ∷ vs → (w ≡ v) × (us ++ [] ≡ vs ++ [])
 bind_tail w v us vs e =

@@ -98,9 +98,6 @@ pub record LexedSoFar (line : List ℕ) (place : ℕ) (done : List Token) : Type
   pub complete : (all : List Token) → Lexes line all → (more : List Token) × Lexes (drop place line) more
   pub reached : Reaches line done (drop place line)
 
-pub lexed_start : (line : List ℕ) → LexedSoFar line 0 []
-lexed_start line = record { sound = λ more h. h; complete = λ all h. (all, h); reached = reaches_start line }
-
 pub lexed_blank : (line : List ℕ) (place : ℕ) (done : List Token) → place < length line → is_blank (get_or line place 0) ≡ true → LexedSoFar line place done → LexedSoFar line (place + 1) done
 lexed_blank line place done inside blank h =
     let cut : drop place line ≡ get_or line place 0 ∷ drop (place + 1) line = drop_more line place 0 inside in

@@ -78,9 +78,6 @@ pub record ReadSoFar (all others : List (List ℕ)) (k : ℕ) (done : List LineT
   pub good : SpellsLines 1 front done
   pub complete : (whole : List LineTree) → SpellsLines 1 all whole → (more : List LineTree) × ((whole ≡ done ++ more) × SpellsLines k others more)
 
-pub read_start : (all : List (List ℕ)) → ReadSoFar all all 1 []
-read_start all = record { front = []; cut = refl; counted = refl; good = refl; complete = λ whole h. (whole, (refl, h)) }
-
 further : (k : ℕ) (front : List (List ℕ)) (line : List ℕ) → k ≡ 1 + length front → k + 1 ≡ 1 + length (front ++ line ∷ [])
 further k front line e = omega (arith, length-append front (line ∷ []))
 
@@ -153,9 +150,6 @@ unspelled_nothing line ts h some none = record {
   not_skipped = not_blank line ts h some;
   no_statement = λ s k. none s (subst (λ (z : List Token). SpellsStatement z s) (lexes_once line k.tokens ts k.lexed h) k.spelled);
 }
-
-pub line_spelled : (line : List ℕ) (ts : List Token) (s : StatementTree) → IsIndented 0 line → Lexes line ts → SpellsStatement ts s → SpellsLine line s
-line_spelled line ts s indented h k = record { tokens = ts; indented = indented; lexed = h; spelled = k }
 
 pub nothing_bad : (line : List ℕ) (before : List LineTree) → HoldsNothing line → IsBad line before
 nothing_bad line before h = record { not_skipped = h.not_skipped; no_room = λ s k. absurd (h.no_statement s k) }

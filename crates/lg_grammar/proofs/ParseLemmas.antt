@@ -7,7 +7,7 @@ use Rattle.lg_grammar.specs.Grammar.{sum, term, SpellsTree, SpellsStatement, a_b
 use Rattle.lg_grammar.specs.Parsing.{Finds, BeginsNoPlus, SpellsNothing, EndsTerm, EndsSum, EndsStatement, EndsAdded}
 use Rattle.lg_grammar.specs.declared.parsing.ParseEnd.{ParseEnd}
 use Rattle.lg_grammar.specs.declared.parsing.ParseEnd.TheVariants.{Syntax, NoMemory}
-use Rattle.lg_grammar.proofs.GrammarLemmas.{SumSoFar, no_first, no_more, too_high, sum_once, IsStatement, bound, printed, statement_of_tokens, print_no_name}
+use Rattle.lg_grammar.proofs.GrammarLemmas.{SumSoFar, no_first, no_more, too_high, sum_once, IsStatement, bound, printed, statement_of_tokens, print_no_name, end_no_plus, closing_no_plus}
 
 pub ends_first : (from : List Token) (e : ParseEnd) → EndsTerm from e → EndsSum from e
 ends_first from Syntax h = no_first from h
@@ -57,12 +57,6 @@ prints_by ts a s p (printed us e q r k low) =
 
 pub prints : (ts a : List Token) (s : StatementTree) → ts ≡ word (codes "print") ∷ a → SpellsStatement ts s → Prints a
 prints ts a s p h = prints_by ts a s p (statement_of_tokens h)
-
-closing_no_plus : (rest : List Token) → BeginsNoPlus (closing ∷ rest)
-closing_no_plus rest ts e = cc
-
-end_no_plus : BeginsNoPlus []
-end_no_plus ts e = cc
 
 pub print_unopened : (ts a : List Token) → ts ≡ word (codes "print") ∷ a → ((rest : List Token) → a ≡ opening ∷ rest → ⊥) → SpellsNothing ts
 print_unopened ts a p none s h = let o = prints ts a s p h in none (o.front ++ (closing ∷ [])) o.cut

@@ -2,10 +2,8 @@
 use Rattle.std.proofs.Common.{◌≡◌, ℕ, suc, zero, ◌+◌, ◌<◌, Option, None, Some, IfSome, IfNone, List, [], ◌∷◌, length, get_or, refl, sym, ap, subst, add-one}
 use Rattle.std.specs.List.{All, slice_get}
 use Rattle.std.proofs.lemmas.Option.{slice_get_within, get_or_from_slice_get}
-use Rattle.lg_grammar.specs.Reading.{token_from, token_of, tokens_of, left, IsSpan, IsSign}
+use Rattle.lg_grammar.specs.Reading.{token_of, tokens_of, left, IsSpan}
 use Rattle.lg_grammar.specs.declared.tokens.Token.{Token as Span}
-use Rattle.lg_grammar.specs.declared.tokens.TokenKind.{TokenKind}
-use Rattle.lg_grammar.specs.declared.tokens.TokenKind.TheVariants.{Word, Number, Equals, Plus, Opening, Closing, Comma}
 
 left_some : (line : List ℕ) (ts : List Span) (place : ℕ) (t : Span) → slice_get ts place ≡ Some t → left line ts place ≡ token_of line t ∷ left line ts (suc place)
 left_some line [] place t e = absurd (cc)
@@ -37,24 +35,3 @@ within_at (Some t) ts place e = slice_get_within ts place t (sym e)
 pub none_at : (o : Option Span) (ts : List Span) (place : ℕ) → o ≡ slice_get ts place → IfNone o ((line : List ℕ) → left line ts place ≡ [])
 none_at None ts place e = λ line. left_none line ts place (sym e)
 none_at (Some t) ts place e = tt
-
--- a sign has no text
-pub sign_from : (kind : TokenKind) (text : List ℕ) → IsSign kind → token_from kind text ≡ token_from kind []
-sign_from Word text h = absurd h
-sign_from (Number n) text h = absurd h
-sign_from Equals text h = refl
-sign_from Plus text h = refl
-sign_from Opening text h = refl
-sign_from Closing text h = refl
-sign_from Comma text h = refl
-
--- and two signs with one token are of one kind
-pub sign_once : (k m : TokenKind) (text : List ℕ) → IsSign m → token_from k text ≡ token_from m [] → k ≡ m
-sign_once k Word text h e = absurd h
-sign_once k (Number n) text h e = absurd h
-sign_once Equals Equals text h e = refl
-sign_once Plus Plus text h e = refl
-sign_once Opening Opening text h e = refl
-sign_once Closing Closing text h e = refl
-sign_once Comma Comma text h e = refl
-sign_once k m text h e = absurd (cc)

@@ -1,9 +1,9 @@
 -- The next token of a line is determined, and blanks in front of it change nothing.
-use Rattle.std.proofs.Common.{subst₂, ◌-◌, get_or, None, length-drop, take-append-drop, one-add, drop-drop, ◌≡◌, ℕ, ◌+◌, ◌<◌, ◌≤◌, Bool, true, false, cond, List, [], ◌∷◌, ◌++◌, length, take, drop, decimal, refl, sym, ap, ◌∙◌, subst, arith, IsTrue, Option, Some}
+use Rattle.std.proofs.Common.{subst₂, ◌-◌, get_or, None, length-drop, take-append-drop, one-add, drop-drop, ◌≡◌, ℕ, ◌+◌, ◌<◌, ◌≤◌, Bool, true, false, cond, List, [], ◌∷◌, ◌++◌, length, take, drop, decimal, refl, sym, ap, ◌∙◌, subst, arith, IsTrue, Some}
 use Rattle.std.specs.Str.Parse.{AllDigits}
 use Rattle.std.specs.List.{AllByRecursion, prefix_len}
 use Rattle.std.proofs.lemmas.List.{append_cancel_left}
-use Rattle.std.proofs.lemmas.Bool.{eqb-true, or_parts, or_left, both_ways, cond-true, cond-false}
+use Rattle.std.proofs.lemmas.Bool.{or_parts, or_left, both_ways, cond-true, cond-false}
 use Rattle.std.proofs.lemmas.Bool.Decides.{nat_tests}
 use Rattle.lg_grammar.specs.Token.{Token, word, number, equals, plus, opening, closing, comma, is_blank, is_letter, is_digit, is_word_byte, IsWord, text_of, IsToken, BeginsApart, EndsBefore}
 use Rattle.lg_grammar.specs.Reading.{IsFirst, Takes, TakesNone, IsNext, token_from}
@@ -14,9 +14,6 @@ use Rattle.lg_grammar.proofs.NumberLemmas.{decimal_once, decimal_digits, decimal
 
 abbrev AllWordBytes : List ℕ → Type 0
 AllWordBytes bs = AllByRecursion (λ b. IsTrue (is_word_byte b)) bs
-
-abbrev AllBlank : List ℕ → Type 0
-AllBlank bs = AllByRecursion (λ b. IsTrue (is_blank b)) bs
 
 -- a run of word bytes ends where the bytes go on apart
 pub run_once : (xs ys a b : List ℕ) → AllWordBytes xs → AllWordBytes ys → BeginsApart a → BeginsApart b → xs ++ a ≡ ys ++ b → xs ≡ ys
@@ -163,24 +160,6 @@ word_from b bs n false e l h = absurd (cc)
 pub run_is_name : (bs : List ℕ) → is_letter (get_or bs 0 0) ≡ true → IsWord (take (prefix_len is_word_byte bs) bs)
 run_is_name [] l = absurd (cc)
 run_is_name (b ∷ bs) l = word_from b bs (prefix_len is_word_byte bs) (is_word_byte b) (or_left (is_letter b) (is_digit b) l) l (run_is_word bs)
-
--- the sign at a byte, by cases
-peel : (P : ℕ → TokenKind → Type 0) (b n : ℕ) (k kind : TokenKind) (o : Option TokenKind) → P n k → (o ≡ Some kind → P b kind) → (t : Bool) → (t ≡ true → b ≡ n) → cond t (Some k) o ≡ Some kind → P b kind
-peel P b n k kind o here there true same e = let one : k ≡ kind = cc in subst₂ P (sym (same refl)) one here
-peel P b n k kind o here there false same e = there e
-
-sign_cases : (P : ℕ → TokenKind → Type 0) → P 61 Equals → P 43 Plus → P 40 Opening → P 41 Closing → P 44 Comma → (b : ℕ) (kind : TokenKind) → sign_at b ≡ Some kind → P b kind
-sign_cases P a c d e f b kind =
-    peel P b 61 Equals kind _ a (peel P b 43 Plus kind _ c (peel P b 40 Opening kind _ d (peel P b 41 Closing kind _ e (peel P b 44 Comma kind None f (λ h. absurd (cc)) _ (eqb-true b 44)) _ (eqb-true b 41)) _ (eqb-true b 40)) _ (eqb-true b 43)) _ (eqb-true b 61)
-
-sign_takes : (b : ℕ) (kind : TokenKind) → sign_at b ≡ Some kind → (text rest : List ℕ) → Takes (b ∷ rest) (token_from kind text) rest
-sign_takes b kind h =
-    sign_cases (λ b kind. (text rest : List ℕ) → Takes (b ∷ rest) (token_from kind text) rest) (λ text rest. record { cut = refl; token = tt; ends = tt }) (λ text rest. record { cut = refl; token = tt; ends = tt }) (λ text rest. record { cut = refl; token = tt; ends = tt }) (λ text rest. record { cut = refl; token = tt; ends = tt }) (λ text rest. record { cut = refl; token = tt; ends = tt }) b kind h
-
--- what is found in front
-pub first_sign : (bs : List ℕ) (kind : TokenKind) → 0 < length bs → sign_at (get_or bs 0 0) ≡ Some kind → IsFirst bs kind 1
-first_sign [] kind some h = absurd (omega arith)
-first_sign (b ∷ bs) kind some h = record { taken = sign_takes b kind h (b ∷ []) bs; some = omega arith; within = some }
 
 pub first_word : (bs : List ℕ) (n : ℕ) → n ≡ prefix_len is_word_byte bs → 0 < n → n ≤ length bs → is_letter (get_or bs 0 0) ≡ true → IsFirst bs Word n
 first_word bs n run some inside l = record {

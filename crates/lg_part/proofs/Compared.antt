@@ -1,6 +1,7 @@
 -- Two grids are compared field by field, and their parts tell the fields.
-use Rattle.std.proofs.Common.{◌≡◌, ℕ, nat_eq, Bool, true, false, ◌&&◌, List, length, map, refl, sym, ap, ◌∙◌}
+use Rattle.std.proofs.Common.{◌≡◌, ℕ, nat_eq, Bool, ◌&&◌, List, length, map, sym, ap, ◌∙◌}
 use lib.Pointwise.{pointwise}
+use Rattle.std.proofs.Math.Bool.{and_assoc}
 use Rattle.lg_space.specs.Stored.{padded}
 use Rattle.lg_part.specs.Grids.{axes_of, IsGrid, last_end, first_size, numbers_of}
 use Rattle.lg_part.specs.Again.{grid_again}
@@ -27,10 +28,6 @@ same_colors a b =
 -- and all of them together
 abbrev same_fields : Inside → Inside → Bool
 same_fields a b = same_shape a.shape b.shape && (pointwise nat_eq a.sizes b.sizes && same_colors a.colors b.colors)
-
-and_assoc : (x y z : Bool) → (x && y) && z ≡ x && (y && z)
-and_assoc true y z = refl
-and_assoc false y z = refl
 
 pub same_by_parts : (a b : Inside) (r s : List (List (ℕ × ℕ))) → IsGrid a.shape a.sizes a.colors → axes_of a.shape a.sizes a.colors ≡ r
     → IsGrid b.shape b.sizes b.colors → axes_of b.shape b.sizes b.colors ≡ s → (x y z : Bool) → x ≡ same_shape a.shape b.shape

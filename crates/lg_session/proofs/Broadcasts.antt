@@ -3,6 +3,7 @@ use Rattle.std.proofs.Common.{◌≡◌, ◌≢◌, ℕ, suc, zero, ◌+◌, ◌
 use Rattle.std.specs.List.{range_with_len, flat_map}
 use Rattle.std.proofs.lemmas.List.FromFn.{fill_by_all, length-map-range_with_len, get_or-map-range_with_len}
 use Rattle.std.proofs.lemmas.List.{length-replicate, get_or-replicate}
+use Rattle.std.proofs.lemmas.Simd.{map-map}
 use Rattle.std.proofs.lemmas.Bool.Decides.{nat_tests}
 use Rattle.lg_elem.specs.declared.dtype.DType.{DType}
 use Rattle.lg_shape.specs.Shapes.{places, place_of, aligned, broadcast, joined_extent}
@@ -20,10 +21,6 @@ places_is : (n : ℕ) → places (n ∷ []) ≡ map (λ i. i ∷ []) (range_with
 places_is n =
     let size : n - 0 ≡ n = omega arith in
     places_from 0 (n - 0) ∙ ap (λ m. map (λ i. i ∷ []) (range_with_len 0 m)) size
-
-map-map : {X Y Z : Type 0} (f : Y → Z) (g : X → Y) (xs : List X) → map f (map g xs) ≡ map (λ x. f (g x)) xs
-map-map f g [] = refl
-map-map f g (x ∷ xs) = ap (λ l. f (g x) ∷ l) (map-map f g xs)
 
 -- the place in a value of one axis that belongs to a place of the whole
 abbrev pub source_place : ℕ → ℕ → ℕ

@@ -120,9 +120,6 @@ module _ {T : Type 0} (number : T → ℤ) (out : List T) (target : List ℤ) (t
       let next = covers_next i tile low high c within is ends in
       omega (arith, next.within)
 
-  pub covers_none : Follow 0 tiles (length out) → IsFilled number out target tiles
-  covers_none follow = record { covered = 0; follow = follow; placed = refl }
-
   -- one more tile
   pub covers_more : (i : ℕ) (tile : List (ℕ × ℕ)) (low high : ℕ) (part : List T) → IsFilled number out target (drop i tiles) → i < length tiles → tile ≡ get_or tiles i tile
       → tile ≡ (low, high) ∷ [] → length part ≡ length (slice_range out low high)
@@ -160,21 +157,6 @@ part_whole xs n low high e = grind (arith, nat_tests)
 
 pub part_other : {A : Type 0} (xs : List A) (n low high : ℕ) → length xs ≢ n → part_of xs n low high ≡ xs
 part_other xs n low high e = grind (arith, nat_tests)
-
--- how many elements of an operand belong to a tile
-length-part_of : {A : Type 0} (xs : List A) (n low high : ℕ) → high ≤ n → length (part_of xs n low high) ≡ (if length xs == n then high - low else length xs)
-length-part_of xs n low high within = grind (arith, nat_tests, length-between xs low high)
-
-joined_by_test : (m k n w : ℕ) → joined_extent m k ≡ Some n → joined_extent (if m == n then w else m) (if k == n then w else k) ≡ Some w
-joined_by_test m k n w e = grind (arith, nat_tests)
-
--- the parts of two operands go together as the operands do
-pub joined_parts : {A : Type 0} (xs ys : List A) (n low high : ℕ) → high ≤ n → joined_extent (length xs) (length ys) ≡ Some n
-    → joined_extent (length (part_of xs n low high)) (length (part_of ys n low high)) ≡ Some (high - low)
-joined_parts xs ys n low high within e =
-    ap (λ m. joined_extent m (length (part_of ys n low high))) (length-part_of xs n low high within)
-    ∙ ap (joined_extent (if length xs == n then high - low else length xs)) (length-part_of ys n low high within)
-    ∙ joined_by_test (length xs) (length ys) n (high - low) e
 
 joined_fits : (m k n : ℕ) → joined_extent m k ≡ Some n → ((m ≡ n) ⊎ (m ≡ 1)) × ((k ≡ n) ⊎ (k ≡ 1))
 joined_fits m k n e = grind (arith, nat_tests)

@@ -31,12 +31,6 @@ stands_start arrays none w =
     let Q : Option View → Type 0 = λ o. StandsFor [] None o in
     subst P (sym (none w)) (subst Q (sym (get-empty (slice_cmp nat_cmp) w)) tt)
 
--- names that stand for the same arrays stand for the same states
-pub stands_same : (before after : List ℕ → Option Root) (s : State) → ((w : List ℕ) → after w ≡ before w) → AllStand before s → AllStand after s
-stands_same before after s same stands w =
-    let P : Option Root → Type 0 = λ o. StandsFor s.memory o (get s.names w) in
-    subst P (sym (same w)) (stands w)
-
 module _ (before after : List ℕ → Option Root) (s : State) (w : List ℕ) (numbers : List ℤ) (stands : AllStand before s)
     (updated : (q : List ℕ) → after q ≡ (if bytes_eq w q then Some (row numbers) else before q)) where
   -- the name stands for a view that shows the array, in a memory that has grown

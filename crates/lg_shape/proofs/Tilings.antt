@@ -135,10 +135,6 @@ pub tiles_partition : (pieces : ℕ) (shape : List ℕ) (whole_axes : List Bool)
 tiles_partition pieces shape whole_axes h =
     combinations_partition (axis_parts pieces shape whole_axes) shape (axis_parts_cut pieces shape whole_axes h)
 
-pub tile_of : (pieces : ℕ) (shape : List ℕ) (whole_axes : List Bool) (number : ℕ) (tile : List (ℕ × ℕ)) → 1 ≤ pieces → slice_get (tiles pieces shape whole_axes) number ≡ Some tile → IsTile shape tile
-tile_of pieces shape whole_axes number tile h at =
-    combination_tile (axis_parts pieces shape whole_axes) shape (axis_parts_cut pieces shape whole_axes h) number tile at
-
 -- a tile of a shape that a program has can be kept
 pub tile_storable : {shape : List ℕ} {tile : List (ℕ × ℕ)} → IsTile shape tile → IsShape shape → size_of shape ≤ MAX_VOLUME → IsStorable tile
 tile_storable tile shape small = record {

@@ -104,7 +104,3 @@ combination_of (choices ∷ others) k xs at =
     let rest = some_of_map (λ rest. p.2 ∷ rest) (slice_get (combinations others) p.1) xs (sym (slice_get-map (λ rest. p.2 ∷ rest) (combinations others) p.1) ∙ p.4) in
     let q = combination_of others p.1 rest.0 rest.1 in
     (p.0 ∷ q.0, subst (PicksAt (choices ∷ others) (p.0 ∷ q.0)) rest.2 (p.3, q.1), ap (p.0 * length (combinations others) +◌) q.2 ∙ p.5)
-
--- a place is below the number of combinations
-pub place_below : {A : Type 0} (xss : List (List A)) (ds : List ℕ) (xs : List A) → PicksAt xss ds xs → place_among xss ds < length (combinations xss)
-place_below xss ds xs h = slice_get_within (combinations xss) (place_among xss ds) xs (combination_at xss ds xs h)

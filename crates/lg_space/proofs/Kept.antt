@@ -1,10 +1,10 @@
 -- What is kept of a rectangle, and its list of ranges.
-use Rattle.std.proofs.Common.{◌≡◌, ℕ, Bool, true, false, ◌<◌, List, length, take, map, get_or, nat_eq, refl, sym, ap, ◌∙◌, arith}
+use Rattle.std.proofs.Common.{◌≡◌, ℕ, Bool, List, length, take, map, nat_eq, sym, ap, ◌∙◌, arith}
 use Rattle.std.specs.List.{zip}
 use mathlib.Core.Bool.{◌&&◌}
 use lib.Pointwise.{pointwise}
-use Rattle.std.proofs.lemmas.List.{get_or-take}
-use Rattle.std.proofs.lemmas.Slice.Zip.{firsts-zip, seconds-zip, length-zip, get_or-zip}
+use Rattle.std.proofs.Math.Bool.{and_assoc}
+use Rattle.std.proofs.lemmas.Slice.Zip.{firsts-zip, seconds-zip, length-zip}
 use Rattle.lg_space.specs.Stored.{padded, IsRect}
 use Rattle.lg_space.specs.Again.{axes_again, rect_again}
 use Rattle.lg_space.specs.declared.rect.AnyRect.TheInside.{Inside as RectInside}
@@ -25,12 +25,6 @@ module _ (axes : ℕ) (lo hi : List ℕ) (kept : IsRect axes lo hi) where
   pub kept_highs : map (λ (range : ℕ × ℕ). range.1) (zip (take axes lo) (take axes hi)) ≡ take axes hi
   kept_highs = seconds-zip (take axes lo) (take axes hi) (high_count ∙ sym low_count)
 
-  pub kept_range : (axis : ℕ) (d : ℕ × ℕ) → axis < axes → get_or (zip (take axes lo) (take axes hi)) axis d ≡ (get_or lo axis d.0, get_or hi axis d.1)
-  kept_range axis d h =
-      get_or-zip (take axes lo) (take axes hi) axis d (omega (arith, low_count)) (omega (arith, high_count))
-      ∙ ap (λ x. (x, get_or (take axes hi) axis d.1)) (get_or-take axes lo axis d.0 h)
-      ∙ ap (λ x. (get_or lo axis d.0, x)) (get_or-take axes hi axis d.1 h)
-
 -- the fields from the list alone
 abbrev fields_of : List (ℕ × ℕ) → RectInside
 fields_of rect = record {
@@ -42,10 +36,6 @@ fields_of rect = record {
 -- what a comparison field by field answers
 abbrev same_fields : RectInside → RectInside → Bool
 same_fields a b = nat_eq a.axes b.axes && (pointwise nat_eq a.lo b.lo && pointwise nat_eq a.hi b.hi)
-
-and_assoc : (x y z : Bool) → (x && y) && z ≡ x && (y && z)
-and_assoc true y z = refl
-and_assoc false y z = refl
 
 pub same_by_lists : (a b : RectInside) (r s : List (ℕ × ℕ)) → IsRect a.axes a.lo a.hi → zip (take a.axes a.lo) (take a.axes a.hi) ≡ r
     → IsRect b.axes b.lo b.hi → zip (take b.axes b.lo) (take b.axes b.hi) ≡ s → (x y z : Bool) → x ≡ nat_eq a.axes b.axes

@@ -3,12 +3,13 @@ use Rattle.std.proofs.lemmas.Result.{err_from_is_err_and}
 use Rattle.lg_grammar.specs.Tree.{Tree, full}
 use Rattle.lg_grammar.specs.View.{tree_of}
 use Rattle.lg_session.specs.Evaluation.{IsOutcome}
-use Rattle.lg_session.proofs.Seen.{tree_of-Full, seen_left, seen_right}
+use Rattle.lg_grammar.proofs.TreeLemmas.{tree-Full}
+use Rattle.lg_session.proofs.Seen.{seen_left, seen_right}
 use Rattle.lg_session.proofs.evaluation.+evaluate.Goals as goal
 
 pub returns-in-Full : goal.returns-in-Full
 returns-in-Full t c = λ state stands.
-    let seen : tree_of c.args.value.now ≡ full c.in-Full.extent c.in-Full.value = ap tree_of c.in-Full.is ∙ tree_of-Full c.in-Full.extent c.in-Full.value in
+    let seen : tree_of c.args.value.now ≡ full c.in-Full.extent c.in-Full.value = ap tree_of c.in-Full.is ∙ tree-Full c.in-Full.extent c.in-Full.value in
     subst (λ (e : Tree). IsOutcome e state c.evaluate_full.result) (sym seen) (c.evaluate_full.ensures state)
 
 pub returns-in_err-left-in-Add : goal.returns-in_err-left-in-Add
