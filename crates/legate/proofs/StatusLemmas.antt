@@ -4,7 +4,7 @@ use Rattle.lg_grammar.specs.Tree.{LineTree}
 use Rattle.lg_grammar.specs.Script.{Spells, IsFirstBad}
 use Rattle.lg_meaning.specs.Run.{run}
 use Rattle.legate.specs.declared.exit.Exit.{Exit}
-use Rattle.legate.specs.declared.exit.TheConstants.{USAGE, SYNTAX, TOO_LONG, READ_FAULT, NO_MEMORY}
+use Rattle.legate.specs.Statuses.{USAGE, SYNTAX, TOO_LONG, READ_FAULT, NO_MEMORY}
 use Rattle.legate.specs.Top.{SpellsNone, EndsAs}
 
 -- the answer is then syntax and no other

@@ -1,3 +1,4 @@
+pub mod Statuses
 pub mod Messages
 pub mod Running
 pub mod Top

@@ -31,7 +31,8 @@ IsStopped WriteFault script old new = AppendsPart old new (run script).text
 IsStopped NoMemory script old new = PrintsFirst script old new
 
 -- the statement has no fault, its text was appended, and the session stands for the state after it
-pub record Writes (line : LineTree) (state : State) (old new : Option (List ℕ)) (session : Session) : Type 0 where
+pub record Writes (line : LineTree) (state : State) (old new : Option (List ℕ))
+    (session : Session) : Type 0 where
   pub sound : (step line.statement state).fault ≡ None
   pub printed : Appends old new (step line.statement state).text
   pub stands : Stands session (step line.statement state).state

@@ -7,7 +7,7 @@ use Rattle.lg_meaning.specs.declared.fault.FaultKind.{FaultKind}
 use Rattle.lg_meaning.specs.Run.{End, done, fault_at, run}
 use Rattle.legate.specs.Running.{Ends, PrintsFirst}
 use Rattle.legate.specs.declared.exit.Exit.{Exit}
-use Rattle.legate.specs.declared.exit.TheConstants.{DONE, FAULT}
+use Rattle.legate.specs.Statuses.{DONE, FAULT}
 
 -- the words are the one word `run`
 abbrev pub IsRunCommand : {A : Type 0} → List (String A) → Type 0
@@ -17,7 +17,8 @@ IsRunCommand words = map string_bytes words ≡ codes "run" ∷ []
 abbrev pub SpellsNone : List ℕ → Type 0
 SpellsNone bytes = (script : List LineTree) → Spells bytes script → ⊥
 
--- the bytes spell this script and no other; it ends so, no byte is left, and its whole text was appended
+-- the bytes spell this script and no other; it ends so, no byte is left, and its whole text was
+-- appended
 pub record Finishes (bytes : List ℕ) (end : End) (left old new : Option (List ℕ)) : Type 0 where
   pub script : List LineTree
   pub spelled : Spells bytes script
@@ -49,4 +50,5 @@ pub record HasFault (bytes : List ℕ) : Type 0 where
 -- the answer says how the script ends
 abbrev pub EndsAs : Exit → End → Type 0
 EndsAs exit done = exit.status ≡ DONE
-EndsAs exit (fault_at line kind) = (exit.status ≡ FAULT) × (exit.line ≡ line) × (exit.kind ≡ Some kind)
+EndsAs exit (fault_at line kind) = (exit.status ≡ FAULT) × (exit.line ≡ line)
+    × (exit.kind ≡ Some kind)

@@ -1,3 +1,5 @@
+ghost use Rattle.std.specs.Prelude.{◌≡◌, None};
+
 use lg_meaning::FaultKind;
 
 /// How a run ended. The numbers are this project's own.
@@ -11,6 +13,19 @@ pub struct Exit {
 
     /// The kind of fault that `FAULT` names; `None` with every other status.
     pub kind: Option<FaultKind>,
+}
+
+impl Exit {
+    /// The answer with a status that names neither a line nor a kind of fault.
+    pub fn with(status: u8) -> Exit
+        ensures { result ≡ record { status = status; line = 0; kind = None } }
+    {
+        Exit {
+            status,
+            line: 0,
+            kind: None,
+        }
+    }
 }
 
 /// The whole work was done, and its whole text was written.

@@ -23,15 +23,20 @@ pub enum LoadStop {
 
 /// Reads a source to its end, and the script that its bytes spell.
 pub fn load<S: Source>(alloc: Global, source: &mut S) -> Result<Script, LoadStop>
-    ensures script { IfOk result (λ script. IfSome (S.left source.old) (λ bytes. Spells bytes (script_of script))) }
+    ensures script { IfOk result (λ script. IfSome (S.left source.old) (λ bytes.
+        Spells bytes (script_of script))) }
     ensures only { IfOk result (λ script. IfSome (S.left source.old) (λ bytes.
         (other : List LineTree) → Spells bytes other → other ≡ script_of script)) }
-    ensures all_read { IfOk result (λ script. IfSome (S.left source.old) (λ bytes. S.left source.new ≡ Some [])) }
-    ensures syntax { (line : ℕ) → IsErrOf result (LoadStop.Syntax line) → IfSome (S.left source.old) (λ bytes.
+    ensures all_read { IfOk result (λ script. IfSome (S.left source.old) (λ bytes.
+        S.left source.new ≡ Some [])) }
+    ensures syntax { (line : ℕ) → IsErrOf result (LoadStop.Syntax line)
+        → IfSome (S.left source.old) (λ bytes.
         SpellsNone bytes × IsFirstBad bytes line) }
     ensures too_long { IfSome (S.left source.old) (λ bytes.
-        IsErrOf result LoadStop.TooLong ↔ (MAX_SCRIPT_BYTES < taken_count bytes (S.left source.new))) }
-    ensures read_fault { IsErrOf result LoadStop.ReadFault → Rose (S.faults source.old) (S.faults source.new) }
+        IsErrOf result LoadStop.TooLong
+        ↔ (MAX_SCRIPT_BYTES < taken_count bytes (S.left source.new))) }
+    ensures read_fault { IsErrOf result LoadStop.ReadFault
+        → Rose (S.faults source.old) (S.faults source.new) }
     ensures later { S.faults source.old ≤ S.faults source.new }
 {
     let bytes = match read_all(alloc, source, MAX_SCRIPT_BYTES) {

@@ -12,27 +12,28 @@ mod top;
 pub use exit::Exit;
 use exit::NO_MEMORY;
 use lg_outside::{StdSink, StdSource};
-use messages::write_line;
+use messages::told;
 use std::env::Env;
 use std::process::ExitCode;
 use std::{env, io};
 pub use top::legate;
 
-/// Runs the script on standard input by the words after the program's name, prints to standard output, writes
-/// messages to standard error, and ends with the status.
+/// Runs the script on standard input by the words after the program's name, prints to standard
+/// output, writes messages to standard error, and ends with the status.
 fn main(rt: HostRuntime) -> ExitCode {
     let mut source = StdSource::new(rt.stdin());
     let mut out = StdSink::new(rt.stdout());
     let mut log = StdSink::new(rt.stderr());
     let Ok(words) = arguments(&rt) else {
-        let _ = write_line(&mut log, b"no memory");
-        return ExitCode::from(NO_MEMORY);
+        let exit = told(&mut log, Exit::with(NO_MEMORY));
+        return ExitCode::from(exit.status);
     };
     let exit = legate(rt.alloc(), &words, &mut source, &mut out, &mut log);
     ExitCode::from(exit.status)
 }
 
-// The words after the program's name. One that is no text belongs to no command, and then there are none.
+// The words after the program's name. One that is no text belongs to no command, and then there are
+// none.
 fn arguments<R: Env + AllocGlobal>(rt: &R) -> io::Result<Vec<String>> {
     let mut words = Vec::new(rt.alloc());
     let arguments = match env::args(rt) {

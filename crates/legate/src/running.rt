@@ -47,7 +47,8 @@ impl From<StopEnd> for RunStop {
 
 /// Runs the statements in order, and writes what each prints.
 pub fn run_script<K: Sink>(alloc: Global, script: &Script, out: &mut K) -> Result<(), RunStop>
-    ensures done { OnOk result (Ends (script_of script.now) done (K.written out.old) (K.written out.new)) }
+    ensures done { OnOk result (Ends (script_of script.now) done (K.written out.old)
+        (K.written out.new)) }
     ensures stopped { IfErr result (λ stop.
         IsStopped stop (script_of script.now) (K.written out.old) (K.written out.new)) }
     ensures fault { IsErrOf result RunStop.WriteFault → Rose (K.faults out.old) (K.faults out.new) }

@@ -1,14 +1,14 @@
 //! Whole calls over streams in memory, with what each must answer, print and log.
-use crate::exit::{DONE, FAULT, READ_FAULT, SYNTAX, TOO_LONG, USAGE, WRITE_FAULT};
-use crate::legate;
+use crate::messages::told;
+use crate::{Exit, legate};
 use lg_meaning::FaultKind;
 use lg_outside::{MemorySink, MemorySource};
 use std::alloc::{AllocError, Global};
 use std::process::Abort;
 use std::test::Fail;
 
-// What a call is given and must answer. The source gives at most `piece` bytes in a call; `reads` and `writes` are the
-// numbers of the calls that fail.
+// What a call is given and must answer. The status numbers are written out. The source gives at
+// most `piece` bytes in a call; `reads` and `writes` are the numbers of the calls that fail.
 #[derive(Clone, Copy)]
 struct Row {
     words: &'static [&'static str],
@@ -57,7 +57,7 @@ fn faulty(
 ) -> Row {
     Row {
         kind: Some(kind),
-        ..plain(script, FAULT, line, out, log)
+        ..plain(script, 4, line, out, log)
     }
 }
 
@@ -83,31 +83,31 @@ fn try_row(rt: &impl Abort, alloc: Global, row: &Row) -> Result<(), Fail> {
 #[test]
 fn scripts_print(rt: HostRuntime) -> Result<(), Fail> {
     let rows = [
-        plain(b"", DONE, 0, b"", b""),
+        plain(b"", 0, 0, b"", b""),
         plain(
             b"a = full(3, 7)\nprint(a + a)",
-            DONE,
+            0,
             0,
             b"[14, 14, 14]\n",
             b"",
         ),
         plain(
             b"print(full(0, 7))\n\n \t\nprint( full(1 ,\t0) )\n",
-            DONE,
+            0,
             0,
             b"[]\n[0]\n",
             b"",
         ),
         plain(
             b"print(full(1, 5) + full(3, 1))\nprint(full(2, 1) + full(1, 4) + full(2, 2))\nprint(full(0, 1) + full(1, 1))",
-            DONE,
+            0,
             0,
             b"[6, 6, 6]\n[7, 7]\n[]\n",
             b"",
         ),
         plain(
             b"a = full(2, 1)\nb = a\na = full(1, 9)\nprint(b)\nprint(a + b)\nb = b + b\nprint(b)",
-            DONE,
+            0,
             0,
             b"[1, 1]\n[10, 10]\n[2, 2]\n",
             b"",
@@ -122,10 +122,10 @@ fn scripts_print(rt: HostRuntime) -> Result<(), Fail> {
 #[test]
 fn scripts_have_faults(rt: HostRuntime) -> Result<(), Fail> {
     let rows = [
-        plain(b"print(a + 1)", SYNTAX, 1, b"", b"line 1: syntax\n"),
+        plain(b"print(a + 1)", 3, 1, b"", b"line 1: syntax\n"),
         plain(
             b"print(full(1, 1))\nprint(full(1, 01))\n",
-            SYNTAX,
+            3,
             2,
             b"",
             b"line 2: syntax\n",
@@ -182,7 +182,7 @@ fn sums_wrap_at_64_bits(rt: HostRuntime) -> Result<(), Fail> {
         let mut out = MemorySink::new(alloc, 64, Vec::new(alloc))?;
         let mut log = MemorySink::new(alloc, 64, Vec::new(alloc))?;
         let exit = legate(alloc, &words, &mut source, &mut out, &mut log);
-        assert_eq!(rt; exit.status, DONE);
+        assert_eq!(rt; exit.status, 0);
         assert_eq!(rt; out.bytes(), text);
     }
     Ok(())
@@ -191,40 +191,40 @@ fn sums_wrap_at_64_bits(rt: HostRuntime) -> Result<(), Fail> {
 #[test]
 fn streams_and_words_fail(rt: HostRuntime) -> Result<(), Fail> {
     let script = b"a = full(3, 7)\nprint(a + a)\nprint(full(1, 5))";
-    let base = plain(script, DONE, 0, b"[14, 14, 14]\n[5]\n", b"");
+    let base = plain(script, 0, 0, b"[14, 14, 14]\n[5]\n", b"");
     let rows = [
         Row {
             piece: 4,
             reads: &[2],
-            status: READ_FAULT,
+            status: 6,
             out: b"",
             log: b"read fault\n",
             ..base
         },
         Row {
             room: 3,
-            status: WRITE_FAULT,
+            status: 7,
             out: b"[14",
             log: b"write fault\n",
             ..base
         },
         Row {
             writes: &[2],
-            status: WRITE_FAULT,
+            status: 7,
             out: b"[14, 14, 14]\n",
             log: b"write fault\n",
             ..base
         },
         Row {
             words: &[],
-            status: USAGE,
+            status: 2,
             out: b"",
             log: b"usage: legate run, check or demo\n",
             ..base
         },
         Row {
             words: &["run", "run"],
-            status: USAGE,
+            status: 2,
             out: b"",
             log: b"usage: legate run, check or demo\n",
             ..base
@@ -249,7 +249,7 @@ fn each_read_fails_in_turn(rt: HostRuntime) -> Result<(), Fail> {
         let mut out = MemorySink::new(alloc, 64, Vec::new(alloc))?;
         let mut log = MemorySink::new(alloc, 64, Vec::new(alloc))?;
         let exit = legate(alloc, &words, &mut source, &mut out, &mut log);
-        assert_eq!(rt; exit.status, READ_FAULT);
+        assert_eq!(rt; exit.status, 6);
         assert_eq!(rt; out.bytes(), b"".as_slice());
         assert_eq!(rt; log.bytes(), b"read fault\n".as_slice());
     }
@@ -269,7 +269,7 @@ fn each_room_is_filled(rt: HostRuntime) -> Result<(), Fail> {
         // A log that fails changes nothing.
         let mut log = MemorySink::new(alloc, 5, Vec::new(alloc))?;
         let exit = legate(alloc, &words, &mut source, &mut out, &mut log);
-        assert_eq!(rt; exit.status, WRITE_FAULT);
+        assert_eq!(rt; exit.status, 7);
         assert_eq!(rt; out.bytes(), &text[..room]);
         assert_eq!(rt; log.bytes(), b"write".as_slice());
     }
@@ -280,8 +280,8 @@ fn each_room_is_filled(rt: HostRuntime) -> Result<(), Fail> {
 fn a_script_of_the_greatest_length_is_read(rt: HostRuntime) -> Result<(), Fail> {
     let alloc = rt.alloc();
     for (length, status, message) in [
-        (1_048_576usize, DONE, b"".as_slice()),
-        (1_048_577, TOO_LONG, b"script too long\n".as_slice()),
+        (1_048_576usize, 0, b"".as_slice()),
+        (1_048_577, 5, b"script too long\n".as_slice()),
     ] {
         let words = vec![in alloc; String::from_str(alloc, "run")?]?;
         let script = vec![in alloc; b' '; length]?;
@@ -293,4 +293,68 @@ fn a_script_of_the_greatest_length_is_read(rt: HostRuntime) -> Result<(), Fail> 
         assert_eq!(rt; log.bytes(), message);
     }
     Ok(())
+}
+
+// Each message line, with the number of its status or the kind of its fault.
+#[test]
+fn messages_are_written(rt: HostRuntime) -> Result<(), Fail> {
+    let rows = [
+        (0u8, 0u64, None, b"".as_slice()),
+        (2, 0, None, b"usage: legate run, check or demo\n"),
+        (3, 12, None, b"line 12: syntax\n"),
+        (4, 1, Some(FaultKind::Name), b"line 1: name\n"),
+        (4, 2, Some(FaultKind::TypeKind), b"line 2: type\n"),
+        (4, 3, Some(FaultKind::Range), b"line 3: range\n"),
+        (4, 4, Some(FaultKind::Shape), b"line 4: shape\n"),
+        (4, 5, Some(FaultKind::Index), b"line 5: index\n"),
+        (4, 6, Some(FaultKind::Step), b"line 6: step\n"),
+        (4, 7, Some(FaultKind::Divisor), b"line 7: zero divisor\n"),
+        (4, 8, Some(FaultKind::Power), b"line 8: power\n"),
+        (4, 9, Some(FaultKind::ReadOnly), b"line 9: read-only\n"),
+        (4, 100_000, Some(FaultKind::Limit), b"line 100000: limit\n"),
+        (5, 0, None, b"script too long\n"),
+        (6, 0, None, b"read fault\n"),
+        (7, 0, None, b"write fault\n"),
+        (9, 0, None, b"no memory\n"),
+    ];
+    for (status, line, kind, text) in rows {
+        let mut log = MemorySink::new(rt.alloc(), 64, Vec::new(rt.alloc()))?;
+        let exit = told(&mut log, Exit { status, line, kind });
+        assert_eq!(rt; exit.status, status);
+        assert_eq!(rt; log.bytes(), text);
+    }
+    Ok(())
+}
+
+// Runs a script into an output with this room, and compares what it prints.
+fn prints(rt: &impl Abort, alloc: Global, script: Vec<u8>, text: &[u8]) -> Result<(), Fail> {
+    let words = vec![in alloc; String::from_str(alloc, "run")?]?;
+    let mut source = MemorySource::new(script, 65_536, Vec::new(alloc));
+    let mut out = MemorySink::new(alloc, text.len(), Vec::new(alloc))?;
+    let mut log = MemorySink::new(alloc, 64, Vec::new(alloc))?;
+    let exit = legate(alloc, &words, &mut source, &mut out, &mut log);
+    assert_eq!(rt; exit.status, 0);
+    assert!(rt; out.bytes() == text);
+    Ok(())
+}
+
+// As many statements as there may be, and more elements than fit in a few pages: a run that gives
+// up early is seen.
+#[test]
+fn long_scripts_and_large_arrays_run(rt: HostRuntime) -> Result<(), Fail> {
+    let alloc = rt.alloc();
+    let mut script = Vec::new(alloc);
+    let mut text = Vec::new(alloc);
+    for _ in 0..1_000 {
+        script.extend_from_slice(b"print(full(1, 8))\n")?;
+        text.extend_from_slice(b"[8]\n")?;
+    }
+    prints(&rt, alloc, script, &text)?;
+    let mut text = Vec::from_slice(alloc, b"[5")?;
+    for _ in 1..2_000_000 {
+        text.extend_from_slice(b", 5")?;
+    }
+    text.extend_from_slice(b"]\n")?;
+    let script = Vec::from_slice(alloc, b"a = full(2000000, 2)\nprint(a + full(1, 3))\n")?;
+    prints(&rt, alloc, script, &text)
 }

@@ -22,4 +22,5 @@ WrapsByModulus = (t : DType) (x : ℤ) → ¬ (t ≡ Truth) → IsCongruent (2 ^
 
 -- and the type has no other such number
 abbrev pub HasNoOther : Type 0
-HasNoOther = (t : DType) (x y : ℤ) → ¬ (t ≡ Truth) → IsNumber t y → IsCongruent (2 ^ bits t) x y → y ≡ wrap t x
+HasNoOther = (t : DType) (x y : ℤ) → ¬ (t ≡ Truth) → IsNumber t y → IsCongruent (2 ^ bits t) x y
+    → y ≡ wrap t x

@@ -1,4 +1,5 @@
--- What an operation on two elements gives: a number and a flag. After NumPy's reference, "Math operations".
+-- What an operation on two elements gives: a number and a flag. After NumPy's reference, "Math
+-- operations".
 use Rattle.std.specs.Prelude.{ℤ, ◌+ℤ◌}
 use Rattle.lg_elem.specs.declared.dtype.DType.{DType}
 use Rattle.lg_elem.specs.declared.kinds.Binary.{Binary}

@@ -1,4 +1,5 @@
--- The element types, and how a whole number is wrapped to one. After NumPy's reference, "Data types" and "Overflow errors".
+-- The element types, and how a whole number is wrapped to one. After NumPy's reference, "Data
+-- types" and "Overflow errors".
 use Rattle.std.specs.Prelude.{ℕ, ◌-◌, ◌^◌, Bool, true, false, ℤ, pos, neg_ℤ, ◌-ℤ◌, ◌≤ℤ◌, int_lt, if◌then◌else◌}
 use Rattle.std.specs.Int.{int_rem_euclid}
 use Rattle.lg_elem.specs.declared.dtype.DType.{DType}
@@ -52,7 +53,9 @@ IsNumber t x = (least t ≤ℤ x) × (x ≤ℤ greatest t)
 -- the number of so many bits, with a sign or without, that differs from x by a multiple of 2 ^ n
 abbrev pub wrap_to : Bool → ℕ → ℤ → ℤ
 wrap_to false n x = int_rem_euclid x (pos (2 ^ n))
-wrap_to true n x = if int_lt (int_rem_euclid x (pos (2 ^ n))) (pos (2 ^ (n - 1))) then int_rem_euclid x (pos (2 ^ n))
+wrap_to true n x =
+    if int_lt (int_rem_euclid x (pos (2 ^ n))) (pos (2 ^ (n - 1)))
+    then int_rem_euclid x (pos (2 ^ n))
     else int_rem_euclid x (pos (2 ^ n)) -ℤ pos (2 ^ n)
 
 -- 0 for 0, and 1 for any other number

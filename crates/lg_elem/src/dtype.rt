@@ -1,4 +1,5 @@
-/// The type of an array's elements, as in NumPy's reference, "Data types": truth values, and integers by width and sign.
+/// The type of an array's elements, as in NumPy's reference, "Data types": truth values, and
+/// integers by width and sign.
 #[derive(Clone, Copy, Debug, PartialEq, Eq)]
 pub enum DType {
     Bool,

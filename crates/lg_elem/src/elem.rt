@@ -4,7 +4,8 @@ ghost use Rattle.lg_elem.specs.Types.{IsNumber, wrap};
 
 use crate::DType;
 
-/// A Rust type whose values are the elements of one element type. Contracts see an element as its number.
+/// A Rust type whose values are the elements of one element type. Contracts see an element as its
+/// number.
 pub trait Elem: Copy {
     ghost DTYPE: { DType };
 
@@ -19,13 +20,14 @@ pub trait Elem: Copy {
         ensures value { result ≡ number self }
         ensures fits { IsNumber DTYPE result };
 
-    /// The element of a number, which is first wrapped to the type: modulo 2 to the number of bits, or for `Bool` by
-    /// whether it is 0 (NumPy's reference, "Data type promotion" and "Overflow errors").
+    /// The element of a number, which is first wrapped to the type: modulo 2 to the number of bits,
+    /// or for `Bool` by whether it is 0 (NumPy's reference, "Data type promotion" and "Overflow
+    /// errors").
     fn wrap(x: i128) -> Self
         ensures { number result ≡ wrap DTYPE x };
 
-    /// The sum, wrapped to the type. It is `wrap` of the sum of the numbers, by the machine's own arithmetic; for `Bool`
-    /// the or (NumPy's reference, "Math operations").
+    /// The sum, wrapped to the type. It is `wrap` of the sum of the numbers, by the machine's own
+    /// arithmetic; for `Bool` the or (NumPy's reference, "Math operations").
     fn wrapping_add(self, other: Self) -> Self
         ensures { number result ≡ wrap DTYPE (number self +ℤ number other) };
 

@@ -20,8 +20,9 @@ pub fn wrapped_fits()
     ensures { WrapsIntoRange }
 {}
 
-/// What `wrap` brings a whole number to is, for an integer type, the type's one number that equals it modulo 2 to the
-/// number of bits (NumPy's reference, "Overflow errors"); for bool 0 where it is 0, else 1. A number of the type stays.
+/// What `wrap` brings a whole number to is, for an integer type, the type's one number that equals
+/// it modulo 2 to the number of bits (NumPy's reference, "Overflow errors"); for bool 0 where it is
+/// 0, else 1. A number of the type stays.
 pub fn one_number()
     ensures modulus { WrapsByModulus }
     ensures one { HasNoOther }

@@ -5,12 +5,14 @@ mod dtype;
 mod elem;
 mod implementations;
 mod kinds;
-mod laws;
+pub mod laws;
 mod operations;
 mod wrapping;
 
 pub use dtype::DType;
 pub use elem::Elem;
 pub use kinds::{Binary, Flag};
-pub use laws::{one_number, rewrapped, wrapped_fits};
 pub use operations::binary;
+
+#[cfg(test)]
+mod tests;

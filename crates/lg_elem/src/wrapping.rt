@@ -1,7 +1,8 @@
 ghost use Rattle.std.specs.Prelude.{◌≡◌, ◌<◌, ◌≤◌, ◌≤ℤ◌, true, false};
 ghost use Rattle.lg_elem.specs.Types.{least_of, greatest_of, wrap_to};
 
-/// The number of so many bits without a sign that differs from `x` by a multiple of 2 to the number of bits.
+/// The number of so many bits without a sign that differs from `x` by a multiple of 2 to the number
+/// of bits.
 #[inline]
 pub fn wrapped_unsigned(x: i128, bits: u32) -> i128
     requires { bits ≤ 64 }
@@ -11,7 +12,8 @@ pub fn wrapped_unsigned(x: i128, bits: u32) -> i128
     x.rem_euclid(1 << bits)
 }
 
-/// The number of so many bits with a sign that differs from `x` by a multiple of 2 to the number of bits.
+/// The number of so many bits with a sign that differs from `x` by a multiple of 2 to the number of
+/// bits.
 #[inline]
 pub fn wrapped_signed(x: i128, bits: u32) -> i128
     requires some { 0 < bits }

@@ -3,6 +3,7 @@ pub mod Word
 pub mod Tree
 pub mod Grammar
 pub mod Script
+pub mod Laws
 pub mod View
 pub mod Reading
 pub mod Signs

@@ -34,7 +34,8 @@ EndsLine number line NoMemory = ⊤
 -- the line is skipped, or its statement comes behind the others
 abbrev pub AddsLine : ℕ → List ℕ → List LineTree → List LineTree → Type 0
 AddsLine number line old new = (IsSkipped line × (new ≡ old))
-    ⊎ ((statement : StatementTree) × (SpellsLine line statement × (new ≡ old ++ record { number = number; statement = statement } ∷ []) × (length old < 1000)))
+    ⊎ ((statement : StatementTree) × (SpellsLine line statement
+    × (new ≡ old ++ record { number = number; statement = statement } ∷ []) × (length old < 1000)))
 
 -- what it says of a line behind others that adding it ended so
 abbrev pub EndsAdding : ℕ → List ℕ → List LineTree → ScriptEnd → Type 0

@@ -22,11 +22,13 @@ BeginsNoPlus rest = (ts : List Token) → rest ≡ plus ∷ ts → ⊥
 
 -- no term stands in front
 abbrev pub FindsNoTerm : List Token → Type 0
-FindsNoTerm from = (front rest : List Token) (e : Tree) → from ≡ front ++ rest → SpellsTree term front e → ⊥
+FindsNoTerm from = (front rest : List Token) (e : Tree) → from ≡ front ++ rest
+    → SpellsTree term front e → ⊥
 
 -- no sum stands in front that goes on with no `+` and is no higher than it may be
 abbrev pub FindsNoSum : List Token → Type 0
-FindsNoSum from = (front rest : List Token) (e : Tree) → from ≡ front ++ rest → SpellsTree sum front e → BeginsNoPlus rest → height e ≤ 200 → ⊥
+FindsNoSum from = (front rest : List Token) (e : Tree) → from ≡ front ++ rest
+    → SpellsTree sum front e → BeginsNoPlus rest → height e ≤ 200 → ⊥
 
 -- the tokens spell no statement
 abbrev pub SpellsNothing : List Token → Type 0

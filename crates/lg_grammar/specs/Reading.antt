@@ -61,11 +61,14 @@ TakesNone bytes = (t : Token) (rest : List ℕ) → Takes bytes t rest → ⊥
 abbrev pub LexesNone : List ℕ → Type 0
 LexesNone line = (ts : List Token) → Lexes line ts → ⊥
 
--- the line begins with these tokens, with blanks before, between and after them, and this rest stands behind
+-- the line begins with these tokens, with blanks before, between and after them, and this rest
+-- stands behind
 abbrev pub Reaches : List ℕ → List Token → List ℕ → Type 0
-Reaches line [] rest = (blanks : List ℕ) × ((line ≡ blanks ++ rest) × AllByRecursion (λ b. IsTrue (is_blank b)) blanks)
+Reaches line [] rest = (blanks : List ℕ) × ((line ≡ blanks ++ rest)
+    × AllByRecursion (λ b. IsTrue (is_blank b)) blanks)
 Reaches line (t ∷ ts) rest = (blanks : List ℕ) × (next : List ℕ)
-    × ((line ≡ blanks ++ (text_of t ++ next)) × AllByRecursion (λ b. IsTrue (is_blank b)) blanks × IsToken t × EndsBefore t next × Reaches next ts rest)
+    × ((line ≡ blanks ++ (text_of t ++ next)) × AllByRecursion (λ b. IsTrue (is_blank b)) blanks
+    × IsToken t × EndsBefore t next × Reaches next ts rest)
 
 -- behind tokens and blanks stands at this place no blank, and no token either
 pub record IsFault (line : List ℕ) (place : ℕ) : Type 0 where

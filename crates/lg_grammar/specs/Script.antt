@@ -1,4 +1,5 @@
--- Which script the bytes spell, and which line is the first bad one. The rules on lines are this project's own.
+-- Which script the bytes spell, and which line is the first bad one. The rules on lines are this
+-- project's own.
 use Rattle.std.specs.Prelude.{◌≡◌, ℕ, ◌+◌, ◌*◌, ◌≤◌, ◌==◌, List, [], ◌∷◌, ◌++◌, length, replicate, ◌⊎◌}
 use Rattle.std.specs.List.{slice_split}
 use Rattle.lg_grammar.specs.Token.{Token, Lexes, indentation}
@@ -28,7 +29,8 @@ IsSkipped line = Lexes line []
 abbrev pub SpellsLines : ℕ → List (List ℕ) → List LineTree → Type 0
 SpellsLines k [] script = script ≡ []
 SpellsLines k (line ∷ lines) script = (IsSkipped line × SpellsLines (k + 1) lines script)
-    ⊎ ((statement : StatementTree) × (rest : List LineTree) × ((script ≡ record { number = k; statement = statement } ∷ rest)
+    ⊎ ((statement : StatementTree) × (rest : List LineTree)
+    × ((script ≡ record { number = k; statement = statement } ∷ rest)
     × SpellsLine line statement × SpellsLines (k + 1) lines rest))
 
 -- the greatest number of statements
@@ -40,10 +42,12 @@ pub record Spells (bytes : List ℕ) (script : List LineTree) : Type 0 where
   pub lines : SpellsLines 1 (lines_of bytes) script
   pub few : length script ≤ MAX_STATEMENTS
 
--- a line that is not skipped, and that holds no statement or comes after as many statements as there may be
+-- a line that is not skipped, and that holds no statement or comes after as many statements as
+-- there may be
 pub record IsBad (line : List ℕ) (before : List LineTree) : Type 0 where
   pub not_skipped : IsSkipped line → ⊥
-  pub no_room : (statement : StatementTree) → SpellsLine line statement → MAX_STATEMENTS ≤ length before
+  pub no_room : (statement : StatementTree) → SpellsLine line statement
+      → MAX_STATEMENTS ≤ length before
 
 -- the first bad line has this number: the lines in front of it are skipped or hold statements
 pub record IsFirstBad (bytes : List ℕ) (number : ℕ) : Type 0 where

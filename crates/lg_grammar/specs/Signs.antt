@@ -5,5 +5,6 @@ use Rattle.lg_grammar.specs.declared.tokens.TokenKind.TheVariants.{Equals, Plus,
 
 -- the sign that a byte is
 abbrev pub sign_at : ℕ → Option TokenKind
-sign_at b = if b == 61 then Some Equals else (if b == 43 then Some Plus else (if b == 40 then Some Opening
+sign_at b = if b == 61 then Some Equals else (if b == 43 then Some Plus
+    else (if b == 40 then Some Opening
     else (if b == 41 then Some Closing else (if b == 44 then Some Comma else None))))

@@ -1,5 +1,5 @@
--- The tokens of a line. Spaces and tabs between tokens and after the last one are skipped; the longest token is taken at each place.
--- Tokens and blanks are this project's own, after Python's.
+-- The tokens of a line. Spaces and tabs between tokens and after the last one are skipped; the
+-- longest token is taken at each place. Tokens and blanks are this project's own, after Python's.
 use Rattle.std.specs.Prelude.{◌≡◌, ◌≤◌, ℕ, Bool, false, ◌||◌, ◌&&◌, ◌==◌, nat_le, List, [], ◌∷◌, ◌++◌, IsTrue, codes, decimal, ⊤, take_while}
 use Rattle.std.specs.List.{AllByRecursion}
 
@@ -76,7 +76,8 @@ EndsBefore comma rest = ⊤
 abbrev pub Lexes : List ℕ → List Token → Type 0
 Lexes line [] = AllByRecursion (λ b. IsTrue (is_blank b)) line
 Lexes line (t ∷ ts) = (blanks : List ℕ) × (rest : List ℕ)
-    × ((line ≡ blanks ++ (text_of t ++ rest)) × AllByRecursion (λ b. IsTrue (is_blank b)) blanks × IsToken t × EndsBefore t rest × Lexes rest ts)
+    × ((line ≡ blanks ++ (text_of t ++ rest)) × AllByRecursion (λ b. IsTrue (is_blank b)) blanks
+    × IsToken t × EndsBefore t rest × Lexes rest ts)
 
 -- the blanks before the first token
 abbrev pub indentation : List ℕ → List ℕ

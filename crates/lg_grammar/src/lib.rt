@@ -1,6 +1,8 @@
 //! The reader of scripts: tokens, trees and the grammar.
 #![tactic(auto)]
 
+mod examples;
+pub mod laws;
 mod lexing;
 mod parsing;
 mod places;
@@ -9,8 +11,9 @@ mod tokens;
 mod trees;
 mod words;
 
+pub use examples::{heights_by_example, lines_by_example, nodes_by_example};
 pub use lexing::lex_line;
-pub use scripts::{ScriptEnd, one_script, read_script};
+pub use scripts::{ScriptEnd, read_script};
 pub use tokens::{LexEnd, Token, TokenKind};
 pub use trees::{Expr, Line, Script, Statement};
 

@@ -48,7 +48,8 @@ struct Parsed {
 /// The statement that the tokens of a line are.
 pub fn statement(alloc: Global, line: &[u8], tokens: &[Token]) -> Result<Statement, ParseEnd>
     requires { All (IsSpan line.now) tokens.now }
-    ensures found { IfOk result (λ s. SpellsStatement (tokens_of line.now tokens.now) (statement_of s)) }
+    ensures found { IfOk result (λ s. SpellsStatement (tokens_of line.now tokens.now)
+        (statement_of s)) }
     ensures end { IfErr result (EndsStatement (tokens_of line.now tokens.now)) }
 {
     match after_word(line, tokens, 0, b"print") {
@@ -65,8 +66,10 @@ fn printing(
     place: usize,
 ) -> Result<Statement, ParseEnd>
     requires spans { All (IsSpan line.now) tokens.now }
-    requires begun { tokens_of line.now tokens.now ≡ word (codes "print") ∷ left line.now tokens.now place }
-    ensures found { IfOk result (λ s. SpellsStatement (tokens_of line.now tokens.now) (statement_of s)) }
+    requires begun { tokens_of line.now tokens.now ≡ word (codes "print")
+        ∷ left line.now tokens.now place }
+    ensures found { IfOk result (λ s. SpellsStatement (tokens_of line.now tokens.now)
+        (statement_of s)) }
     ensures end { IfErr result (EndsStatement (tokens_of line.now tokens.now)) }
 {
     let Some(place) = after_sign(tokens, place, TokenKind::Opening) else {
@@ -85,8 +88,10 @@ fn printing(
 /// `name = sum`
 fn binding(alloc: Global, line: &[u8], tokens: &[Token]) -> Result<Statement, ParseEnd>
     requires spans { All (IsSpan line.now) tokens.now }
-    requires no_print { (rest : Tokens) → tokens_of line.now tokens.now ≡ word (codes "print") ∷ rest → ⊥ }
-    ensures found { IfOk result (λ s. SpellsStatement (tokens_of line.now tokens.now) (statement_of s)) }
+    requires no_print { (rest : Tokens) → tokens_of line.now tokens.now ≡ word (codes "print")
+        ∷ rest → ⊥ }
+    ensures found { IfOk result (λ s. SpellsStatement (tokens_of line.now tokens.now)
+        (statement_of s)) }
     ensures end { IfErr result (EndsStatement (tokens_of line.now tokens.now)) }
 {
     let Some(word) = name_at(line, tokens, 0) else {
@@ -110,7 +115,8 @@ fn binding(alloc: Global, line: &[u8], tokens: &[Token]) -> Result<Statement, Pa
 fn sum(alloc: Global, line: &[u8], tokens: &[Token], place: usize) -> Result<Parsed, ParseEnd>
     requires { All (IsSpan line.now) tokens.now }
     ensures found { IfOk result (λ p.
-        Finds sum (left line.now tokens.now place) (left line.now tokens.now p.next) (tree_of p.tree)) }
+        Finds sum (left line.now tokens.now place) (left line.now tokens.now p.next)
+        (tree_of p.tree)) }
     ensures low { IfOk result (λ p. tree_height (tree_of p.tree) ≤ 200) }
     ensures longest { IfOk result (λ p. BeginsNoPlus (left line.now tokens.now p.next)) }
     ensures end { IfErr result (EndsSum (left line.now tokens.now place)) }
@@ -127,7 +133,8 @@ fn sum(alloc: Global, line: &[u8], tokens: &[Token], place: usize) -> Result<Par
 fn added(alloc: Global, left: Parsed, right: Parsed) -> Result<Parsed, ParseEnd>
     requires left_low { left.height ≤ 200 }
     requires right_low { right.height ≤ 200 }
-    ensures tree { IfOk result (λ p. tree_of p.tree ≡ add (tree_of left.tree) (tree_of right.tree)) }
+    ensures tree { IfOk result (λ p. tree_of p.tree ≡ add (tree_of left.tree)
+        (tree_of right.tree)) }
     ensures height { IfOk result (λ p. p.height ≡ suc (max left.height right.height)) }
     ensures low { IfOk result (λ p. p.height ≤ 200) }
     ensures next { IfOk result (λ p. p.next ≡ right.next) }
@@ -151,7 +158,8 @@ fn added(alloc: Global, left: Parsed, right: Parsed) -> Result<Parsed, ParseEnd>
 fn term(alloc: Global, line: &[u8], tokens: &[Token], place: usize) -> Result<Parsed, ParseEnd>
     requires { All (IsSpan line.now) tokens.now }
     ensures found { IfOk result (λ p.
-        Finds term (left line.now tokens.now place) (left line.now tokens.now p.next) (tree_of p.tree)) }
+        Finds term (left line.now tokens.now place) (left line.now tokens.now p.next)
+        (tree_of p.tree)) }
     ensures level { IfOk result (λ p. p.height ≡ tree_height (tree_of p.tree)) }
     ensures low { IfOk result (λ p. p.height ≤ 1) }
     ensures within { IfOk result (λ p. (place < p.next) × (p.next ≤ length tokens.now)) }

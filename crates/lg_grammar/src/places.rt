@@ -13,7 +13,8 @@ use sqlite_items::at;
 fn token_at(tokens: &[Token], place: usize) -> Option<Token>
     ensures found { IfSome result (λ t. (line : List ℕ)
         → left line tokens.now place ≡ token_of line t ∷ left line tokens.now (place + 1)) }
-    ensures inside { IfSome result (λ t. (line : List ℕ) → All (IsSpan line) tokens.now → IsSpan line t) }
+    ensures inside { IfSome result (λ t. (line : List ℕ) → All (IsSpan line) tokens.now
+        → IsSpan line t) }
     ensures within { IfSome result (λ t. place < length tokens.now) }
     ensures none { IfNone result ((line : List ℕ) → left line tokens.now place ≡ []) }
 {

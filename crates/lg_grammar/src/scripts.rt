@@ -23,7 +23,8 @@ const STATEMENT_LIMIT: usize = 1_000;
 /// Why bytes give no script.
 #[derive(Clone, Copy, Debug, PartialEq, Eq, Error)]
 pub enum ScriptEnd {
-    /// A line is neither skipped nor a statement, or comes after as many statements as there may be.
+    /// A line is neither skipped nor a statement, or comes after as many statements as there may
+    /// be.
     #[error("line {line}: syntax")]
     Syntax {
         /// The number of the first such line, counted from 1.
@@ -38,12 +39,15 @@ pub enum ScriptEnd {
 ///
 /// # Errors
 ///
-/// `Syntax` with the number of the first bad line where the bytes spell no script, and `NoMemory` where there is no memory for it.
+/// `Syntax` with the number of the first bad line where the bytes spell no script, and `NoMemory`
+/// where there is no memory for it.
 pub fn read_script(alloc: Global, bytes: &[u8]) -> Result<Script, ScriptEnd>
     requires { length bytes.now < 2 ^ 32 }
     ensures script { IfOk result (λ script. Spells bytes.now (script_of script)) }
-    ensures only { IfOk result (λ script. (other : ScriptTree) → Spells bytes.now other → other ≡ script_of script) }
-    ensures small { IfOk result (λ script. sum_by line_nodes (script_of script) ≤ length bytes.now) }
+    ensures only { IfOk result (λ script. (other : ScriptTree) → Spells bytes.now other
+        → other ≡ script_of script) }
+    ensures small { IfOk result (λ script.
+        sum_by line_nodes (script_of script) ≤ length bytes.now) }
     ensures none { IfErr result (SpellsNone bytes.now) }
     ensures first_bad { IfErr result (NamesFirstBad bytes.now) }
 {
@@ -58,11 +62,6 @@ pub fn read_script(alloc: Global, bytes: &[u8]) -> Result<Script, ScriptEnd>
     }
     Ok(Script { lines })
 }
-
-/// Bytes spell one script at most.
-pub fn one_script()
-    ensures { (bytes : List ℕ) (a b : ScriptTree) → Spells bytes a → Spells bytes b → a ≡ b }
-{}
 
 /// The place where the line ends that begins at `start`.
 fn line_end(bytes: &[u8], start: usize) -> usize
@@ -91,7 +90,8 @@ fn add_line(
     line: &[u8],
 ) -> Result<(), ScriptEnd>
     requires { length line.now < 2 ^ 32 }
-    ensures ok { OnOk result (AddsLine number line.now (lines_view lines.old) (lines_view lines.new)) }
+    ensures ok { OnOk result (AddsLine number line.now (lines_view lines.old)
+        (lines_view lines.new)) }
     ensures end { IfErr result (EndsAdding number line.now (lines_view lines.old)) }
 {
     let Some(statement) = read_line(alloc, number, line)? else {

@@ -3,6 +3,7 @@ pub mod Value
 pub mod Text
 pub mod Step
 pub mod Run
+pub mod Examples
 pub use Rattle.lg_grammar.specs.Tree
 pub use Rattle.lg_grammar.specs.Script
 pub use Rattle.lg_elem.specs.Types

@@ -25,7 +25,8 @@ run_after number text None rest = record { text = text ++ rest.text; end = rest.
 abbrev pub run_from : List LineTree → State → Run
 run_from [] state = record { text = []; end = done }
 run_from (line ∷ lines) state =
-    run_after line.number (step line.statement state).text (step line.statement state).fault (run_from lines (step line.statement state).state)
+    run_after line.number (step line.statement state).text (step line.statement state).fault
+    (run_from lines (step line.statement state).state)
 
 -- nothing is there at the start
 abbrev pub start : State

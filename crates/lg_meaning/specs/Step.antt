@@ -25,15 +25,18 @@ rebound w (Some view) state = record { memory = state.memory; names = insert sta
 -- the name stands for the whole of a new root
 abbrev pub newly_bound : List ℕ → Static → List ℤ → State → State
 newly_bound w static numbers state = record {
-  memory = state.memory ++ (record { dtype = static.dtype; shape = static.shape; numbers = numbers } ∷ []);
+  memory = state.memory
+      ++ (record { dtype = static.dtype; shape = static.shape; numbers = numbers } ∷ []);
   names = insert state.names w (whole_view (length state.memory) static.dtype static.shape);
 }
 
 -- `w = e`: a name's view is bound as it is, without a copy; any other value is new
 abbrev pub bound : List ℕ → Tree → Static → State → State
 bound w (name v) static state = rebound w (get state.names v) state
-bound w (full n x) static state = newly_bound w static (value_of (full n x) state.memory state.names) state
-bound w (add a b) static state = newly_bound w static (value_of (add a b) state.memory state.names) state
+bound w (full n x) static state = newly_bound w static
+    (value_of (full n x) state.memory state.names) state
+bound w (add a b) static state = newly_bound w static
+    (value_of (add a b) state.memory state.names) state
 
 abbrev pub bind_step : List ℕ → Tree → State → Result Static FaultKind → Stepped
 bind_step w e state (Err kind) = faulted kind state
@@ -41,7 +44,11 @@ bind_step w e state (Ok static) = record { state = bound w e static state; text 
 
 abbrev pub print_step : Tree → State → Result Static FaultKind → Stepped
 print_step e state (Err kind) = faulted kind state
-print_step e state (Ok static) = record { state = state; text = printed static.shape (value_of e state.memory state.names); fault = None }
+print_step e state (Ok static) = record {
+  state = state;
+  text = printed static.shape (value_of e state.memory state.names);
+  fault = None;
+}
 
 -- one statement: with a static fault the state stays and nothing is printed
 abbrev pub step : StatementTree → State → Stepped

@@ -17,7 +17,8 @@ rows (suc n) size numbers = take size numbers ∷ rows n size (drop size numbers
 -- a number, or a list with a member for each index of the first axis
 abbrev pub nested : List ℕ → List ℤ → List ℕ
 nested [] numbers = signed_decimal (slice_index_or numbers 0 (pos 0))
-nested (extent ∷ extents) numbers = codes "[" ++ (separated (map (nested extents) (rows extent (size_of extents) numbers)) ++ codes "]")
+nested (extent ∷ extents) numbers = codes "["
+    ++ (separated (map (nested extents) (rows extent (size_of extents) numbers)) ++ codes "]")
 
 -- what `print` writes of a value
 abbrev pub printed : List ℕ → List ℤ → List ℕ

@@ -1,4 +1,5 @@
--- The value of an expression, or its first fault. After NumPy's reference, "numpy.full", "Broadcasting" and "numpy.add".
+-- The value of an expression, or its first fault. After NumPy's reference, "numpy.full",
+-- "Broadcasting" and "numpy.add".
 use Rattle.std.specs.Prelude.{ℕ, ◌^◌, nat_lt, if◌then◌else◌, List, [], ◌∷◌, map, replicate, zip, Option, Some, None, Result, Ok, Err, ℤ, pos}
 use Rattle.std.specs.FinMap.{get}
 use Rattle.lg_elem.specs.declared.dtype.DType.{DType}
@@ -64,7 +65,8 @@ named_numbers memory (Some view) = viewed memory view
 abbrev pub sums : DType → List ℤ → List ℤ → List ℤ
 sums dtype xs ys = map (λ p. (binary_of Add dtype p.0 p.1).0) (zip xs ys)
 
--- the numbers of an expression without a static fault, in row-major order. No operation so far has a fault of its elements
+-- the numbers of an expression without a static fault, in row-major order. No operation so far has
+-- a fault of its elements
 abbrev pub value_of : Tree → Memory → Names → List ℤ
 value_of (name w) memory names = named_numbers memory (get names w)
 value_of (full n x) memory names = replicate n (pos x)

@@ -31,18 +31,3 @@ pub enum FaultKind {
     /// More elements or statements than there may be.
     Limit,
 }
-
-#[cfg(test)]
-mod tests {
-    use super::FaultKind;
-    use std::test::Fail;
-
-    // What threads may hold.
-    fn crosses_threads<T: Send + Sync>() {}
-
-    #[test]
-    fn faults_cross_threads(_rt: HostRuntime) -> Result<(), Fail> {
-        crosses_threads::<FaultKind>();
-        Ok(())
-    }
-}

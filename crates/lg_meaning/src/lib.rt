@@ -1,4 +1,5 @@
-//! What a script means: the definitions that every other way of running it is held to, and the faults that a statement can have.
+//! What a script means: the definitions that every other way of running it is held to, and the
+//! faults that a statement can have.
 #![tactic(auto)]
 
 mod examples;
@@ -6,6 +7,9 @@ mod fault;
 
 pub use examples::{
     broadcasting_by_example, limits_by_example, places_by_example, runs_by_example,
-    texts_by_example, wrapping_by_example,
+    steps_by_example, texts_by_example, wrapping_by_example,
 };
 pub use fault::FaultKind;
+
+#[cfg(test)]
+mod tests;

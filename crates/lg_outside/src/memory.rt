@@ -77,7 +77,8 @@ impl Source for MemorySource {
         ensures calls { source_calls self.new ≡ count_up (source_calls self.old) }
         ensures fails { IsErr result ↔ Contains (source_failing self.old) (source_calls self.new) }
         ensures faults { source_faults self.new
-            ≡ (if is_err result then count_up (source_faults self.old) else source_faults self.old) }
+            ≡ (if is_err result then count_up (source_faults self.old)
+            else source_faults self.old) }
         ensures amount { IfOk result (λ n.
             n ≡ min (source_piece self.old) (min (length buf.old) (length (source_left self.old)))) }
         ensures same_piece { source_piece self.new ≡ source_piece self.old }
@@ -109,9 +110,9 @@ pub struct MemorySink {
 impl MemorySink {
     ghost use Rattle.lg_outside.specs.Memory.{sink_calls, sink_failing, sink_faults, sink_room, sink_written};
 
-    /// An empty sink that takes `room` bytes in all. A call of `put` fails if its number, from 1, is
-    /// in `failing`, and where no room is left for any of its bytes. The number stands still at the
-    /// end of a `u64`. All memory is taken here.
+    /// An empty sink that takes `room` bytes in all. A call of `put` fails if its number, from 1,
+    /// is in `failing`, and where no room is left for any of its bytes. The number stands still at
+    /// the end of a `u64`. All memory is taken here.
     pub fn new(alloc: Global, room: usize, failing: Vec<u64>) -> Result<MemorySink, NoMemory>
         ensures written { IfOk result (λ sink. sink_written sink ≡ []) }
         ensures room { IfOk result (λ sink. sink_room sink ≡ room) }

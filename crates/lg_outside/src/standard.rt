@@ -42,12 +42,14 @@ impl<R: Read> Source for StdSource<R> {
     /// Reads once. Each error of the reader is a fault.
     fn next(&mut self, buf: &mut [u8]) -> Result<usize, Failed>
         ensures bound { ReadsAtMost result buf.new }
-        ensures bytes { ReadConsumes (R.remaining (reader_of self.old)) (R.remaining (reader_of self.new))
+        ensures bytes { ReadConsumes (R.remaining (reader_of self.old))
+            (R.remaining (reader_of self.new))
             result buf.new }
         ensures cause { HasCause (reader_faults self.old) (reader_faults self.new) result }
 
         ensures faults { reader_faults self.new
-            ≡ (if is_err result then count_up (reader_faults self.old) else reader_faults self.old) }
+            ≡ (if is_err result then count_up (reader_faults self.old)
+            else reader_faults self.old) }
     {
         match self.reader.read(buf) {
             Ok(count) => Ok(count),
@@ -93,12 +95,14 @@ impl<W: Write> Sink for StdSink<W> {
     /// piece that is not empty.
     fn put(&mut self, piece: &[u8]) -> Result<usize, Failed>
         ensures bound { TakesSome result piece.now }
-        ensures bytes { WriteAppends (W.contents (writer_of self.old)) (W.contents (writer_of self.new))
+        ensures bytes { WriteAppends (W.contents (writer_of self.old))
+            (W.contents (writer_of self.new))
             result piece.now }
         ensures cause { HasCause (writer_faults self.old) (writer_faults self.new) result }
 
         ensures faults { writer_faults self.new
-            ≡ (if is_err result then count_up (writer_faults self.old) else writer_faults self.old) }
+            ≡ (if is_err result then count_up (writer_faults self.old)
+            else writer_faults self.old) }
     {
         match self.writer.write(piece) {
             Ok(count) if 0 < count || piece.is_empty() => Ok(count),

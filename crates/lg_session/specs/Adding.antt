@@ -9,7 +9,8 @@ use Rattle.lg_session.specs.declared.evaluation.EvaluateEnd.TheVariants.{Fault, 
 
 -- the sums of two lists, each broadcast to this length
 abbrev pub sums_along : DType → List ℤ → List ℤ → ℕ → List ℤ
-sums_along dtype xs ys n = sums dtype (broadcast (length xs ∷ []) xs (n ∷ [])) (broadcast (length ys ∷ []) ys (n ∷ []))
+sums_along dtype xs ys n = sums dtype (broadcast (length xs ∷ []) xs (n ∷ []))
+    (broadcast (length ys ∷ []) ys (n ∷ []))
 
 -- the lengths go together, and these are the sums of the two lists
 pub record AddsUp (dtype : DType) (xs ys zs : List ℤ) : Type 0 where

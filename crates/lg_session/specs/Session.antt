@@ -17,7 +17,8 @@ abbrev pub pieces_of : Session → ℕ
 pieces_of session = session.pieces
 
 -- the statement has no fault, it prints this text, and the session stands for the state after it
-pub record Executes (statement : StatementTree) (state : State) (text : List ℕ) (session : Session) : Type 0 where
+pub record Executes (statement : StatementTree) (state : State) (text : List ℕ)
+    (session : Session) : Type 0 where
   pub sound : (step statement state).fault ≡ None
   pub printed : (step statement state).text ≡ text
   pub stands : Stands session (step statement state).state

@@ -13,7 +13,8 @@ pub record Shows (memory : Memory) (view : View) (array : Root) : Type 0 where
   pub shape : view.shape ≡ array.shape
   pub same : viewed memory view ≡ array.numbers
 
--- the same name in the code and in the definition: both are unbound, or one shows the array of the other
+-- the same name in the code and in the definition: both are unbound, or one shows the array of the
+-- other
 abbrev pub StandsFor : Memory → Option Root → Option View → Type 0
 StandsFor memory None None = ⊤
 StandsFor memory None (Some view) = ⊥

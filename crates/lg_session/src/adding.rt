@@ -12,8 +12,8 @@ use lg_meaning::FaultKind;
 use lg_space::AnyRect;
 use std::alloc::Global;
 
-/// The sums of two arrays with one axis, each broadcast to their common length, tile after tile (NumPy's reference, "Broadcasting" and
-/// "numpy.add").
+/// The sums of two arrays with one axis, each broadcast to their common length, tile after tile
+/// (NumPy's reference, "Broadcasting" and "numpy.add").
 ///
 /// # Errors
 ///
@@ -44,7 +44,8 @@ pub fn add<T: Elem>(
 fn add_tiles<T: Elem>(out: &mut [T], tiles: &[AnyRect], left: &[T], right: &[T])
     requires tiles { Follow 0 tiles.now (length out.old) }
     requires together { joined_extent (length left.now) (length right.now) ≡ Some (length out.old) }
-    ensures { map T.number out.new ≡ sums_along T.DTYPE (map T.number left.now) (map T.number right.now) (length out.old) }
+    ensures { map T.number out.new ≡ sums_along T.DTYPE (map T.number left.now)
+        (map T.number right.now) (length out.old) }
 {
     let extent = out.len();
     for tile in tiles {

@@ -59,7 +59,8 @@ impl From<OutOfMemory> for EvaluateEnd {
 ///
 /// The expression's first fault, and `NoMemory`.
 pub fn evaluate(alloc: Global, session: &Session, value: &Expr) -> Result<Array, EvaluateEnd>
-    ensures { (state : State) → Stands session.now state → IsOutcome (tree_of value.now) state result }
+    ensures { (state : State) → Stands session.now state
+        → IsOutcome (tree_of value.now) state result }
 {
     match value {
         Expr::Name(name) => evaluate_name(session, name.as_slice()),

@@ -10,8 +10,8 @@ use lg_outside::NoMemory;
 use lg_space::AnyRect;
 use std::alloc::Global;
 
-/// An array with one axis of so many elements, all the same, tile after tile (NumPy's reference, "numpy.full"). Only
-/// memory can be wanting.
+/// An array with one axis of so many elements, all the same, tile after tile (NumPy's reference,
+/// "numpy.full"). Only memory can be wanting.
 pub fn full<T: Elem>(
     alloc: Global,
     pieces: u32,

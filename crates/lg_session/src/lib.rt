@@ -1,7 +1,8 @@
-//! The evaluation of scripts: a session keeps the arrays that names stand for, and evaluates one statement after another.
+//! The evaluation of scripts: a session keeps the arrays that names stand for, and evaluates one
+//! statement after another.
 //!
-//! An array is a whole row of elements, which the names that stand for it share. What runs for each element stands in
-//! `kernels`, over slices of any element type.
+//! An array is a whole row of elements, which the names that stand for it share. What runs for each
+//! element stands in `kernels`, over slices of any element type.
 #![tactic(auto)]
 
 mod adding;

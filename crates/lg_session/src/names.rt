@@ -35,7 +35,8 @@ impl Names {
     pub fn set(&mut self, name: &[u8], array: Array) -> Result<(), AllocError>
         ensures set { OnOk result ((w : List ℕ) → environment self.new w
             ≡ (if bytes_eq name.now w then Some (root_of array) else environment self.old w)) }
-        ensures same { OnErr result ((w : List ℕ) → environment self.new w ≡ environment self.old w) }
+        ensures same { OnErr result ((w : List ℕ) → environment self.new w
+            ≡ environment self.old w) }
     {
         let key = Vec::from_slice(self.alloc, name)?;
         self.arrays.insert(key, array)?;

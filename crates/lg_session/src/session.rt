@@ -11,8 +11,9 @@ use lg_meaning::FaultKind;
 use lg_outside::NoMemory;
 use std::alloc::Global;
 
-/// Evaluates statements one after another. It keeps the arrays that names stand for, and into how many tiles an
-/// operation is cut at most. What the statements mean is defined in `lg_meaning`; the number of pieces never changes it.
+/// Evaluates statements one after another. It keeps the arrays that names stand for, and into how
+/// many tiles an operation is cut at most. What the statements mean is defined in `lg_meaning`; the
+/// number of pieces never changes it.
 #[derive(Drop)]
 pub struct Session {
     pub(crate) pieces: u32,
@@ -51,8 +52,8 @@ impl Session {
     ghost use Rattle.lg_session.specs.Standing.{Stands};
     ghost use Rattle.lg_session.specs.Session.{Performs, StopsAt, IsExecuted, IsBound, IsText, pieces_of};
 
-    /// A session in which no name is bound, and which cuts each operation into at most so many tiles. It takes no memory
-    /// yet.
+    /// A session in which no name is bound, and which cuts each operation into at most so many
+    /// tiles. It takes no memory yet.
     pub fn new(alloc: Global, pieces: u32) -> Result<Session, NoMemory>
         requires least { 1 ≤ pieces }
         requires most { pieces ≤ 64 }
@@ -70,14 +71,17 @@ impl Session {
     ///
     /// # Errors
     ///
-    /// The statement's fault, with the number of its line, and `NoMemory`. Each name then stands for what it stood for.
+    /// The statement's fault, with the number of its line, and `NoMemory`. Each name then stands
+    /// for what it stood for.
     pub fn step(&mut self, alloc: Global, line: &Line) -> Result<Vec<u8>, Stop>
         ensures done { IfOk result (λ text. (state : State) → Stands self.old state →
             Performs (line_of line.now) state text.items self.new) }
-        ensures stopped { IfErr result (λ stop. (state : State) → Stands self.old state → StopsAt stop.end (line_of line.now) state) }
+        ensures stopped { IfErr result (λ stop. (state : State) → Stands self.old state
+            → StopsAt stop.end (line_of line.now) state) }
         ensures quiet { IfErr result (λ stop. stop.log.items ≡ []) }
         ensures pieces { pieces_of self.new ≡ pieces_of self.old }
-        ensures unchanged { OnErr result ((state : State) → Stands self.old state → Stands self.new state) }
+        ensures unchanged { OnErr result ((state : State) → Stands self.old state
+            → Stands self.new state) }
     {
         match self.execute(alloc, &line.statement) {
             Ok(text) => Ok(text),
@@ -97,9 +101,11 @@ impl Session {
 
     // Performs a statement, and gives the text that it prints.
     fn execute(&mut self, alloc: Global, statement: &Statement) -> Result<Vec<u8>, EvaluateEnd>
-        ensures outcome { (state : State) → Stands self.old state → IsExecuted (statement_of statement.now) state result self.new }
+        ensures outcome { (state : State) → Stands self.old state
+            → IsExecuted (statement_of statement.now) state result self.new }
         ensures pieces { pieces_of self.new ≡ pieces_of self.old }
-        ensures unchanged { OnErr result ((state : State) → Stands self.old state → Stands self.new state) }
+        ensures unchanged { OnErr result ((state : State) → Stands self.old state
+            → Stands self.new state) }
     {
         match statement {
             Statement::Bind { name, value } => {
@@ -112,9 +118,11 @@ impl Session {
 
     // Lets a name stand for the value of an expression, which is computed first.
     fn bind(&mut self, alloc: Global, word: &[u8], value: &Expr) -> Result<(), EvaluateEnd>
-        ensures outcome { (state : State) → Stands self.old state → IsBound word.now (tree_of value.now) state self.new result }
+        ensures outcome { (state : State) → Stands self.old state
+            → IsBound word.now (tree_of value.now) state self.new result }
         ensures pieces { pieces_of self.new ≡ pieces_of self.old }
-        ensures unchanged { OnErr result ((state : State) → Stands self.old state → Stands self.new state) }
+        ensures unchanged { OnErr result ((state : State) → Stands self.old state
+            → Stands self.new state) }
     {
         let array = evaluate(alloc, self, value)?;
         self.names.set(word, array)?;
@@ -123,7 +131,8 @@ impl Session {
 
     // What `print` writes of an expression.
     fn print(&self, alloc: Global, value: &Expr) -> Result<Vec<u8>, EvaluateEnd>
-        ensures { (state : State) → Stands self.now state → IsText (tree_of value.now) state result }
+        ensures { (state : State) → Stands self.now state
+            → IsText (tree_of value.now) state result }
     {
         let array = evaluate(alloc, self, value)?;
         Ok(printed_list(alloc, array.elements())?)

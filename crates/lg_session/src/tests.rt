@@ -97,7 +97,8 @@ fn repeated(alloc: Global, number: &[u8], count: usize) -> Result<Vec<u8>, Alloc
     Ok(text)
 }
 
-// Tiles of many elements, the last one shorter: 64 pieces of 5000 have 79 elements each, and 23 at the end.
+// Tiles of many elements, the last one shorter: 64 pieces of 5000 have 79 elements each, and 23 at
+// the end.
 #[test]
 fn long_arrays_are_summed_whole(rt: HostRuntime) -> Result<(), Fail> {
     let alloc = rt.alloc();

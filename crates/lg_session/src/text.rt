@@ -6,9 +6,11 @@ use itoa::Buffer;
 use lg_elem::Elem;
 use std::alloc::{AllocError, Global};
 
-/// What `print` writes of an array with one axis: Python's text of the list of its numbers, and a line end.
+/// What `print` writes of an array with one axis: Python's text of the list of its numbers, and a
+/// line end.
 pub fn printed_list<T: Elem>(alloc: Global, elements: &[T]) -> Result<Vec<u8>, AllocError>
-    ensures { IfOk result (λ text. text.items ≡ printed (length elements.now ∷ []) (map T.number elements.now)) }
+    ensures { IfOk result (λ text. text.items ≡ printed (length elements.now ∷ [])
+        (map T.number elements.now)) }
 {
     let mut text = Vec::from_slice(alloc, b"[")?;
     push_members(&mut text, elements)?;
@@ -18,7 +20,8 @@ pub fn printed_list<T: Elem>(alloc: Global, elements: &[T]) -> Result<Vec<u8>, A
 
 // Appends the members with a comma and a blank between each two.
 fn push_members<T: Elem>(text: &mut Vec<u8>, elements: &[T]) -> Result<(), AllocError>
-    ensures { OnOk result (text.new.items ≡ text.old.items ++ separated (map signed_decimal (map T.number elements.now))) }
+    ensures { OnOk result (text.new.items ≡ text.old.items
+        ++ separated (map signed_decimal (map T.number elements.now))) }
 {
     let Some((first, others)) = elements.split_first() else {
         return Ok(());

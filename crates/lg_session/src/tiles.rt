@@ -15,7 +15,8 @@ pub fn row_tiles(alloc: Global, pieces: u32, extent: usize) -> Result<Vec<AnyRec
     requires some { 1 ≤ pieces }
     requires few { pieces ≤ 64 }
     requires short { extent ≤ MAX_EXTENT }
-    ensures rule { IfOk result (λ all. all.items ≡ tiles_of pieces (extent ∷ []) (false ∷ false ∷ false ∷ false ∷ [])) }
+    ensures rule { IfOk result (λ all. all.items ≡ tiles_of pieces (extent ∷ [])
+        (false ∷ false ∷ false ∷ false ∷ [])) }
     ensures follow { IfOk result (λ all. Follow 0 all.items extent) }
 {
     let shape = Shape::new(&[extent as u64]);
@@ -31,7 +32,8 @@ pub fn ends(tile: &AnyRect) -> (usize, usize)
     (low as usize, high as usize)
 }
 
-/// What of an operand belongs to a tile: the elements there, or the one element that goes with each length.
+/// What of an operand belongs to a tile: the elements there, or the one element that goes with each
+/// length.
 pub fn part<T>(operand: &[T], extent: usize, low: usize, high: usize) -> &[T]
     requires ordered { low ≤ high }
     requires within { high ≤ extent }

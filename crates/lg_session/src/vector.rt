@@ -5,8 +5,8 @@ use lg_elem::Elem;
 use std::marker::Model;
 use std::rc::Rc;
 
-/// The elements of an array with one axis. There are at most 2 ^ 24, a limit that is this project's own. Contracts see
-/// the list of their numbers.
+/// The elements of an array with one axis. There are at most 2 ^ 24, a limit that is this project's
+/// own. Contracts see the list of their numbers.
 #[derive(Drop)]
 pub struct Vector<T: Elem> {
     elements: Vec<T>,

@@ -7,8 +7,8 @@ use Rattle.std.proofs.Common.{sym, ◌∙◌}
 use Rattle.lg_tile.specs.declared.tile.Tile.{Tile}
 use Rattle.lg_tile.specs.contracts.tile.Tile.{the_row}
 
--- the tile with these elements. Where they are more or fewer they are cut, or filled up from the tile's own, so that there
--- are as many as before
+-- the tile with these elements. Where they are more or fewer they are cut, or filled up from the
+-- tile's own, so that there are as many as before
 abbrev pub with_items : {T : Type 0} → Tile T → List T → Tile T
 with_items t xs = record t {
   items = vec.with_items t.items xs;

@@ -1,5 +1,6 @@
--- What contracts see of a tile of any element type: the type, the rectangle and the whole numbers of its elements. The order
--- of the elements is NumPy's C order (NumPy's reference, "Internal memory layout of an ndarray").
+-- What contracts see of a tile of any element type: the type, the rectangle and the whole numbers
+-- of its elements. The order of the elements is NumPy's C order (NumPy's reference, "Internal
+-- memory layout of an ndarray").
 use Rattle.std.specs.Prelude.{ℕ, List, map, ℤ, pos}
 use Rattle.std.specs.Int.{from_bool}
 use Rattle.lg_elem.specs.declared.dtype.DType.{DType}

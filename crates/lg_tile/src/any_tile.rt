@@ -10,8 +10,8 @@ use lg_outside::NoMemory;
 use lg_space::{AnyRect, Point};
 use std::alloc::Global;
 
-/// A tile of one of the nine element types. Contracts see its type, its rectangle and the whole numbers that its elements
-/// stand for.
+/// A tile of one of the nine element types. Contracts see its type, its rectangle and the whole
+/// numbers that its elements stand for.
 #[derive(Drop)]
 pub enum AnyTile {
     Bool(Tile<bool>),
@@ -43,8 +43,8 @@ macro_rules! each {
 }
 
 impl AnyTile {
-    /// A tile of this type with the same number at each index (NumPy's reference, "numpy.full"). It takes memory once, and
-    /// the only error is that there is none.
+    /// A tile of this type with the same number at each index (NumPy's reference, "numpy.full"). It
+    /// takes memory once, and the only error is that there is none.
     pub fn filled(alloc: Global, dtype: DType, rect: &AnyRect, x: i128) -> Result<AnyTile, NoMemory>
         requires { IsNumber dtype x }
         ensures dtype { IfOk result (λ tile. dtype_of tile ≡ dtype) }
@@ -101,7 +101,8 @@ impl AnyTile {
         each!(self, tile => set_number(tile, p, x))
     }
 
-    /// A tile of the same type, rectangle and numbers. It takes memory once, and the only error is that there is none.
+    /// A tile of the same type, rectangle and numbers. It takes memory once, and the only error is
+    /// that there is none.
     pub fn copied(&self, alloc: Global) -> Result<AnyTile, NoMemory>
         ensures dtype { IfOk result (λ tile. dtype_of tile ≡ dtype_of self.now) }
         ensures rect { IfOk result (λ tile. rect_of tile ≡ rect_of self.now) }
@@ -151,7 +152,8 @@ fn filled_with<T: Elem>(alloc: Global, rect: &AnyRect, x: i128) -> Result<Tile<T
 #[tactic(auto, using(crate::proofs::NumberLemmas::number_read))]
 fn number_at<T: Elem>(tile: &Tile<T>, p: &Point) -> i128
     requires { IsIn (tile_rect tile.now) p.now }
-    ensures value { slice_get (map T.number (tile_items tile.now)) (place_in (tile_rect tile.now) p.now)
+    ensures value { slice_get (map T.number (tile_items tile.now))
+        (place_in (tile_rect tile.now) p.now)
         ≡ Some result }
     ensures fits { IsNumber T.DTYPE result }
 {

@@ -1,12 +1,12 @@
-//! Tiles: the elements of a rectangle of indices, in row-major order, with the element type known to the compiler or not.
+//! Tiles: the elements of a rectangle of indices, in row-major order, with the element type known
+//! to the compiler or not.
 #![tactic(auto)]
 
 mod any_tile;
-mod laws;
+pub mod laws;
 mod tile;
 
 pub use any_tile::AnyTile;
-pub use laws::full_tiles;
 pub use tile::Tile;
 
 #[cfg(test)]

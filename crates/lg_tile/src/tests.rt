@@ -1,6 +1,7 @@
 ghost use Rattle.lg_elem.specs.Types.{IsNumber};
 
-use crate::{AnyTile, Tile, full_tiles};
+use crate::laws::full_tiles;
+use crate::{AnyTile, Tile};
 use lg_elem::DType;
 use lg_space::{AnyRect, Point};
 use std::alloc::Global;

@@ -6,8 +6,9 @@ use lg_outside::NoMemory;
 use lg_space::{AnyRect, Point};
 use std::alloc::Global;
 
-/// The elements of a rectangle, in row-major order, in which the last axis runs fastest (NumPy's reference, "Internal memory
-/// layout of an ndarray"). Contracts see the rectangle, as the list of its ranges, and the list of the elements.
+/// The elements of a rectangle, in row-major order, in which the last axis runs fastest (NumPy's
+/// reference, "Internal memory layout of an ndarray"). Contracts see the rectangle, as the list of
+/// its ranges, and the list of the elements.
 #[derive(Drop)]
 pub struct Tile<T> {
     rect: AnyRect,
@@ -22,7 +23,8 @@ impl<T: Elem> Tile<T> {
     ghost use Rattle.lg_tile.specs.Tile.{tile_items, tile_rect};
     ghost use Rattle.lg_tile.specs.TileLends.{lends_items};
 
-    /// The tile of these elements, which are as many as the rectangle has indices. It takes no memory.
+    /// The tile of these elements, which are as many as the rectangle has indices. It takes no
+    /// memory.
     pub fn new(rect: AnyRect, items: Vec<T>) -> Tile<T>
         requires { length items.items ≡ volume_of rect }
         ensures rect { tile_rect result ≡ rect }
@@ -38,7 +40,8 @@ impl<T: Elem> Tile<T> {
         self.items
     }
 
-    /// A tile with the same element at each index. It takes memory once, and the only error is that there is none.
+    /// A tile with the same element at each index. It takes memory once, and the only error is that
+    /// there is none.
     pub fn filled(alloc: Global, rect: &AnyRect, x: T) -> Result<Tile<T>, NoMemory>
         ensures rect { IfOk result (λ tile. tile_rect tile ≡ rect.now) }
         ensures items { IfOk result (λ tile. tile_items tile ≡ replicate (volume_of rect.now) x) }
@@ -79,7 +82,8 @@ impl<T: Elem> Tile<T> {
     #[tactic(auto, using(crate::proofs::TileLemmas::place_within))]
     pub fn at(&self, p: &Point) -> T
         requires { IsIn (tile_rect self.now) p.now }
-        ensures { slice_get (tile_items self.now) (place_in (tile_rect self.now) p.now) ≡ Some result }
+        ensures { slice_get (tile_items self.now) (place_in (tile_rect self.now) p.now)
+            ≡ Some result }
     {
         let place = self.rect.ravel(p) as usize;
         self.items()[place]
@@ -97,7 +101,8 @@ impl<T: Elem> Tile<T> {
         self.items_mut()[place] = x;
     }
 
-    /// A tile of the same rectangle and elements. It takes memory once, and the only error is that there is none.
+    /// A tile of the same rectangle and elements. It takes memory once, and the only error is that
+    /// there is none.
     pub fn copied(&self, alloc: Global) -> Result<Tile<T>, NoMemory>
         ensures rect { IfOk result (λ tile. tile_rect tile ≡ tile_rect self.now) }
         ensures items { IfOk result (λ tile. tile_items tile ≡ tile_items self.now) }

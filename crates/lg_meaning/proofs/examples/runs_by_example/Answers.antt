@@ -1,5 +1,6 @@
 use Rattle.std.proofs.Common.{refl}
 use Rattle.std.specs.Fmt.{digits}
+use Rattle.std.specs.FinMap.{gets}
 use Rattle.lg_meaning.proofs.examples.runs_by_example.Goals as goal
 
 pub returns-clause-sums : goal.returns-clause-sums
@@ -9,3 +10,11 @@ returns-clause-sums c = refl
 pub returns-clause-stops : goal.returns-clause-stops
 unfolding digits
 returns-clause-stops c = refl
+
+pub returns-clause-bound : goal.returns-clause-bound
+unfolding digits
+returns-clause-bound c = simp gets
+
+pub returns-clause-lost : goal.returns-clause-lost
+unfolding digits
+returns-clause-lost c = simp gets

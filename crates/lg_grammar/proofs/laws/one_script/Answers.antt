@@ -1,5 +1,5 @@
 use Rattle.lg_grammar.proofs.LineLemmas.{script_once}
-use Rattle.lg_grammar.proofs.scripts.one_script.Goals as goal
+use Rattle.lg_grammar.proofs.laws.one_script.Goals as goal
 
 pub returns : goal.returns
 returns c = script_once

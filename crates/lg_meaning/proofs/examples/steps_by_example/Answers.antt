@@ -1,0 +1,17 @@
+use Rattle.std.proofs.Common.{refl}
+use Rattle.std.specs.Fmt.{digits}
+use Rattle.std.specs.FinMap.{gets}
+use Rattle.lg_meaning.proofs.examples.steps_by_example.Goals as goal
+
+pub returns-clause-bound : goal.returns-clause-bound
+returns-clause-bound c = simp gets
+
+pub returns-clause-bound_anew : goal.returns-clause-bound_anew
+returns-clause-bound_anew c = simp gets
+
+pub returns-clause-printed : goal.returns-clause-printed
+unfolding digits
+returns-clause-printed c = simp gets
+
+pub returns-clause-faulted : goal.returns-clause-faulted
+returns-clause-faulted c = simp gets
