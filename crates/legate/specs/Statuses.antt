@@ -1,5 +1,6 @@
 -- The numbers with which the program ends. They are this project's own.
-use Rattle.std.specs.Prelude.{ℕ}
+use Rattle.std.specs.Prelude.{ℕ, ◌==◌, Bool, [], ◌∷◌}
+use Rattle.std.specs.List.{list_any}
 
 -- the whole work was done, and its whole text was written
 abbrev pub DONE : ℕ
@@ -32,3 +33,8 @@ WRITE_FAULT = 7
 -- there was not enough memory
 abbrev pub NO_MEMORY : ℕ
 NO_MEMORY = 9
+
+-- whether a program ends with this number
+abbrev pub is_status : ℕ → Bool
+is_status n = list_any (λ status. status == n)
+    (DONE ∷ USAGE ∷ SYNTAX ∷ FAULT ∷ TOO_LONG ∷ READ_FAULT ∷ WRITE_FAULT ∷ NO_MEMORY ∷ [])

@@ -26,9 +26,7 @@ pub fn legate<S: Source, K: Sink, L: Sink>(
     out: &mut K,
     log: &mut L,
 ) -> Exit
-    ensures statuses { Contains (statuses.DONE ∷ statuses.USAGE ∷ statuses.SYNTAX ∷ statuses.FAULT
-        ∷ statuses.TOO_LONG ∷ statuses.READ_FAULT ∷ statuses.WRITE_FAULT ∷ statuses.NO_MEMORY ∷ [])
-        result.status }
+    ensures statuses { IsTrue (statuses.is_status result.status) }
 
     // Done: the whole script was read and run, and all that it prints was written.
     ensures done { result.status ≡ statuses.DONE → IfSome (S.left source.old) (λ bytes.
