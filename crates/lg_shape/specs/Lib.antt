@@ -1,4 +1,5 @@
 pub mod Shapes
+pub mod Views
 pub mod Tiling
 pub mod Stored
 pub mod Again

@@ -2,8 +2,10 @@
 #![tactic(auto)]
 
 mod shape;
+mod step;
 
 pub use shape::Shape;
+pub use step::Step;
 
 #[cfg(test)]
 mod tests;
