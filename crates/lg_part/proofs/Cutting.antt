@@ -1,13 +1,12 @@
 -- How the loop over the axes cuts them.
-use Rattle.std.proofs.Common.{◌≡◌, ℕ, ◌+◌, ◌-◌, ◌*◌, ◌/◌, ◌<◌, ◌≤◌, max, Bool, true, false, List, [], ◌∷◌, ◌++◌, length, get_or, take, drop, set, replicate, map, All, refl, sym, ap, ◌∙◌, subst, arith}
+use Rattle.std.proofs.Common.{◌≡◌, ℕ, ◌+◌, ◌-◌, ◌*◌, ◌/◌, ◌<◌, ◌≤◌, max, Bool, true, false, List, [], ◌∷◌, ◌++◌, length, get_or, take, drop, set, map, All, refl, sym, ap, ◌∙◌, subst, arith}
 use Rattle.std.specs.List.{range_with_len}
 use Rattle.std.proofs.Math.Nat.{mul-div-le, div-one}
 use Rattle.std.proofs.lemmas.Nat.{mul-le, le-div}
-use Rattle.std.proofs.lemmas.List.{take_more, take_more_set, drop_more, drop-set-lt, append_assoc, length-take-le, length-set}
+use Rattle.std.proofs.lemmas.List.{take_more, take_more_set, drop_more, append_assoc, length-take-le, length-set}
 use Rattle.std.proofs.lemmas.List.Elements.{All-nil, All-cons, All-push, All-weaker}
-use Rattle.std.proofs.lemmas.Grind.{drop_more_same}
 use Rattle.std.proofs.Math.Seq.{take-length, drop-length}
-use Rattle.std.proofs.lemmas.List.{take-append-drop, drop-replicate, append-nil, length-take}
+use Rattle.std.proofs.lemmas.List.{append-nil, length-take}
 use Rattle.lg_space.specs.Rectangle.{numbers_in, volume_of}
 use Rattle.lg_space.specs.Stored.{MAX_END, MAX_VOLUME, IsStorable}
 use Rattle.lg_shape.specs.Shapes.{size_of}
@@ -124,7 +123,6 @@ pub record IsCutSoFar (pieces : ℕ) (shape : List ℕ) (whole : List Bool) (axe
   pub cut : IsCutShape (take axes shape) (take axes sizes) (take axes numbers)
   pub few : volume_of (take axes numbers) * left ≤ pieces
   pub short : All (IsShort pieces) (take axes numbers)
-  pub filled : drop axes sizes ≡ drop axes (replicate 4 0)
 
 -- one more axis is cut
 module _ (pieces : ℕ) (shape : List ℕ) (whole : List Bool) (axes : ℕ) (sizes : List ℕ) (numbers : List (ℕ × ℕ)) (left size count : ℕ)
@@ -176,7 +174,6 @@ module _ (pieces : ℕ) (shape : List ℕ) (whole : List Bool) (axes : ℕ) (siz
       cut = rw (shape_more, sizes_more, numbers_more) (cut-append (take axes shape) (take axes sizes) (take axes numbers) (get_or shape axes 0) size (0, count) same_length so_far.cut here.cut);
       few = few_more;
       short = rw numbers_more (All-push (IsShort pieces) (take axes numbers) (0, count) so_far.short (omega (arith, so_far.most, here.count_most)));
-      filled = drop-set-lt (axes + 1) sizes axes size (omega arith) ∙ drop_more_same sizes (replicate 4 0) axes so_far.filled;
     }
 
 -- ---- all axes are cut
@@ -240,12 +237,6 @@ module _ (pieces : ℕ) (shape : List ℕ) (whole : List Bool) (sizes : List ℕ
     pub all_kept : IsShape shape → pieces ≤ 64 → size_of shape ≤ MAX_VOLUME → IsGrid shape sizes (take (length shape) numbers)
     all_kept few_axes few_pieces small = record {
       few = few_axes.axes;
-      filled =
-          let count : length (take (length shape) sizes) ≡ length shape = length-take-le (length shape) sizes (omega (arith, h.sizes_long, few_axes.axes)) in
-          let rest : drop (length shape) sizes ≡ replicate (4 - length (take (length shape) sizes)) 0 =
-          h.filled ∙ drop-replicate (length shape) 4 0 ∙ ap (λ n. replicate (4 - n) 0) (sym count)
-          in
-          sym (take-append-drop (length shape) sizes) ∙ ap (λ xs. take (length shape) sizes ++ xs) rest;
       cut = all_cut;
       small = small;
       few_tiles = omega (arith, all_few);

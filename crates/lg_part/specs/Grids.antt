@@ -1,7 +1,8 @@
 -- What is kept of a shape that is cut into tiles.
-use Rattle.std.specs.Prelude.{◌≡◌, ℕ, ◌-◌, ◌*◌, ◌^◌, ◌<◌, ◌≤◌, max, List, [], ◌∷◌, length, take, map, slice_index_or}
+use Rattle.std.specs.Prelude.{◌≡◌, ℕ, ◌-◌, ◌*◌, ◌^◌, ◌<◌, ◌≤◌, max, List, [], ◌∷◌, length, map}
 use Rattle.lg_space.specs.Rectangle.{numbers_in, volume_of}
-use Rattle.lg_space.specs.Stored.{MAX_AXES, MAX_VOLUME, padded}
+use Rattle.lg_space.specs.declared.point.TheConstants.{MAX_AXES}
+use Rattle.lg_space.specs.Stored.{MAX_VOLUME}
 use Rattle.lg_shape.specs.Shapes.{size_of}
 use Rattle.lg_shape.specs.Tiling.{part}
 
@@ -10,8 +11,8 @@ abbrev pub axes_of : List ℕ → List ℕ → List (ℕ × ℕ) → List (List 
 axes_of (extent ∷ shape) (size ∷ sizes) (numbers ∷ colors) = map (part extent size) (numbers_in numbers) ∷ axes_of shape sizes colors
 axes_of shape sizes colors = []
 
--- an axis of this extent is cut into so many parts of this size. There is at least one part, and no part begins behind the
--- end. Where there is one part, its size is that of the axis, so that the parts tell it
+-- an axis of this extent is cut into so many parts of this size, which is not above the extent but
+-- where that is 0. There is at least one part, and no part begins behind the end
 pub record IsCutAxis (extent size : ℕ) (numbers : ℕ × ℕ) : Type 0 where
   pub from_0 : numbers.0 ≡ 0
   pub some : 1 ≤ numbers.1
@@ -29,19 +30,6 @@ IsCutShape shape sizes colors = ⊥
 -- the cut of a shape with up to four axes
 pub record IsGrid (shape sizes : List ℕ) (colors : List (ℕ × ℕ)) : Type 0 where
   pub few : length shape ≤ MAX_AXES
-  pub filled : sizes ≡ padded 0 (take (length shape) sizes)
   pub cut : IsCutShape shape sizes colors
   pub small : size_of shape ≤ MAX_VOLUME
   pub few_tiles : volume_of colors < 2 ^ 32
-
--- where the last range ends
-abbrev pub last_end : List (ℕ × ℕ) → ℕ
-last_end ranges = (slice_index_or ranges (length ranges - 1) (0, 0)).1
-
--- the extent of the first range, and 1 if it is empty
-abbrev pub first_size : List (ℕ × ℕ) → ℕ
-first_size ranges = max 1 (slice_index_or ranges 0 (0, 0)).1
-
--- the numbers of the ranges
-abbrev pub numbers_of : List (ℕ × ℕ) → ℕ × ℕ
-numbers_of ranges = (0, length ranges)

@@ -1,4 +1,3 @@
 pub mod Grids
-pub mod Again
 pub mod Laws
 pub use Rattle.lg_shape.specs.Tiling

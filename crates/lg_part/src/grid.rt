@@ -13,34 +13,24 @@ use std::marker::Model;
 
 /// A shape cut into tiles: each axis is cut into parts, and each combination of parts is a tile. Contracts see the list of
 /// the parts of each axis, a part as its low and its high end.
-#[derive(Clone, Copy, Debug, PartialEq, Eq)]
+#[derive(Debug, Drop)]
 pub struct Grid {
     shape: Shape,
-    // The extent of the parts of each axis, of which the last one may be shorter, and zeros behind them.
+    // The extent of the parts of each axis, of which the last one may be shorter.
     sizes: [u64; 4],
     // The numbers of the parts of each axis. An index of this rectangle tells a tile, and its place the colour.
     colors: AnyRect,
 }
 
 impl Model for Grid {
-    ghost use Rattle.std.specs.Prelude.{ℕ, List, map};
-    ghost use Rattle.lg_space.specs.Stored.{padded};
-    ghost use Rattle.lg_part.specs.Grids.{axes_of, IsGrid, last_end, first_size, numbers_of};
-    ghost use Rattle.lg_part.specs.Again.{grid_again};
+    ghost use Rattle.std.specs.Prelude.{ℕ, List};
+    ghost use Rattle.lg_part.specs.Grids.{axes_of, IsGrid};
 
     ghost Value = { List (List (ℕ × ℕ)) };
 
     ghost view = { λ g. axes_of g.shape g.sizes g.colors };
 
     ghost invariant = { λ g. IsGrid g.shape g.sizes g.colors };
-
-    ghost inverse = { λ axes. record {
-      shape = map last_end axes;
-      sizes = padded 0 (map first_size axes);
-      colors = map numbers_of axes;
-    } };
-
-    ghost inverse_ok = { grid_again };
 }
 
 // The extent of the parts of an axis that is to have so many of them.

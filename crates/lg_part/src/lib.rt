@@ -4,6 +4,7 @@
 //! order, and the place of a tile in that order is its colour. The rule that chooses the parts is this project's own.
 #![tactic(auto)]
 
+pub mod examples;
 mod grid;
 pub mod laws;
 

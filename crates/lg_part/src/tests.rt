@@ -167,6 +167,8 @@ fn laws_and_threads(_rt: HostRuntime) -> Result<(), Fail> {
     laws::tiles_partition();
     laws::tiles_count();
     laws::parts_filled();
+    examples::one_axis_by_example();
+    examples::axes_by_example();
     crosses_threads::<Grid>();
     Ok(())
 }

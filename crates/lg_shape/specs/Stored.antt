@@ -1,6 +1,7 @@
 -- Which shapes there are in a program. The limits are this project's own.
 use Rattle.std.specs.Prelude.{◌≡◌, ℕ, ◌≤◌, List, length, take, All}
-use Rattle.lg_space.specs.Stored.{MAX_AXES, MAX_END, padded}
+use Rattle.lg_space.specs.declared.point.TheConstants.{MAX_AXES}
+use Rattle.lg_space.specs.Stored.{MAX_END, padded}
 
 -- at most four axes, none of them too long
 pub record IsShape (shape : List ℕ) : Type 0 where

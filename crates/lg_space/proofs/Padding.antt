@@ -3,7 +3,8 @@ use Rattle.std.proofs.Common.{◌≡◌, ℕ, zero, suc, ◌+◌, ◌-◌, ◌<�
 use Rattle.std.specs.List.{zip}
 use Rattle.std.proofs.lemmas.List.{length-map, take_more, map-append, take_all}
 use Rattle.std.proofs.Math.Seq.{take-append_seam, set-append_seam}
-use Rattle.lg_space.specs.Stored.{MAX_AXES, padded, IsStorable, IsRect}
+use Rattle.lg_space.specs.declared.point.TheConstants.{MAX_AXES}
+use Rattle.lg_space.specs.Stored.{padded, IsStorable, IsRect}
 use Rattle.lg_space.proofs.Ranges.{zip_ends}
 
 fill_one : (n filler : ℕ) → 0 < n → replicate n filler ≡ filler ∷ replicate (n - 1) filler

@@ -3,7 +3,8 @@ use Rattle.std.proofs.Common.{◌≡◌, ℕ, ◌-◌, ◌≤◌, List, length, 
 use Rattle.std.specs.List.{zip}
 use Rattle.std.proofs.lemmas.List.{length-replicate}
 use Rattle.std.proofs.lemmas.Slice.Zip.{firsts-zip, seconds-zip, length-zip}
-use Rattle.lg_space.specs.Stored.{MAX_AXES, padded, IsPoint, IsRect}
+use Rattle.lg_space.specs.declared.point.TheConstants.{MAX_AXES}
+use Rattle.lg_space.specs.Stored.{padded, IsPoint, IsRect}
 use Rattle.lg_space.specs.declared.point.Point.TheInside.{Inside as PointInside}
 use Rattle.lg_space.specs.declared.rect.AnyRect.TheInside.{Inside as RectInside}
 

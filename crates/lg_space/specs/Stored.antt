@@ -1,6 +1,8 @@
--- Which rectangles and points there are in a program. The limits are this project's own.
+-- Which rectangles and points there are in a program. The limits are this project's own. The greatest
+-- number of axes, `MAX_AXES`, is the constant of the code.
 use Rattle.std.specs.Prelude.{◌≡◌, ℕ, ◌≤◌, ◌^◌, ◌-◌, List, ◌++◌, length, take, replicate, zip, All}
 use Rattle.lg_space.specs.Rectangle.{volume_of}
+use Rattle.lg_space.specs.declared.point.TheConstants.{MAX_AXES}
 
 -- the greatest end of a range
 abbrev pub MAX_END : ℕ
@@ -9,10 +11,6 @@ MAX_END = 2 ^ 24
 -- the greatest number of indices
 abbrev pub MAX_VOLUME : ℕ
 MAX_VOLUME = 2 ^ 48
-
--- the greatest number of axes
-abbrev pub MAX_AXES : ℕ
-MAX_AXES = 4
 
 -- each range ends where it begins or behind, within the limits
 pub record IsStorable (rect : List (ℕ × ℕ)) : Type 0 where

@@ -1,5 +1,4 @@
 ghost use Rattle.std.specs.Prelude.{◌≡◌, ◌≤◌, length};
-ghost use Rattle.lg_space.specs.Stored.{MAX_AXES};
 
 use std::marker::Model;
 

@@ -65,7 +65,7 @@ impl AnyRect {
     /// The low and the high end of an axis.
     pub fn range(&self, axis: usize) -> (u64, u64)
         requires { axis < length self.now }
-        ensures { result ≡ slice_index_or self.now axis result }
+        ensures { slice_get self.now axis ≡ Some result }
     {
         (self.lows()[axis], self.highs()[axis])
     }

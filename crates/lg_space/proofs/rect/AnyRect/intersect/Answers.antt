@@ -1,5 +1,6 @@
 use Rattle.std.proofs.Common.{◌∙◌, ◌↔◌, List, ℕ, sym, subst, arith}
 use Rattle.std.proofs.lemmas.List.{length-set}
+use Rattle.std.proofs.lemmas.Option.{get_or_from_slice_get}
 use Rattle.lg_space.specs.Rectangle.{IsIn}
 use Rattle.lg_space.specs.Stored.{IsStorable}
 use Rattle.lg_space.proofs.Meeting.{meeting_more, storable-meeting, in-meeting, made_meeting}
@@ -13,7 +14,7 @@ loop-axis-preserved c =
       so_far = meeting_more c.args.self.now c.args.other.now c.loop-axis.ranges c.loop-axis.axis c.range.result c.range-in-loop-axis.result c.common.result
           (omega (arith, axes, c.loop-axis-test.true)) (omega (arith, axes, c.loop-axis-test.true, c.requires))
           (omega (arith, axes, c.axes-axes.ensures.storable.axes, c.loop-axis-test.true, c.loop-axis.invariant.room))
-          c.range.ensures c.range-in-loop-axis.ensures c.common.ensures c.loop-axis.invariant.so_far;
+          (sym (get_or_from_slice_get c.args.self.now c.loop-axis.axis c.range.result c.range.result c.range.ensures)) (sym (get_or_from_slice_get c.args.other.now c.loop-axis.axis c.range-in-loop-axis.result c.range-in-loop-axis.result c.range-in-loop-axis.ensures)) c.common.ensures c.loop-axis.invariant.so_far;
     }
 
 pub new-requires : goal.new-requires
