@@ -1,6 +1,6 @@
 -- Indices of a rectangle, axis by axis.
-use Rattle.std.proofs.Common.{◌≡◌, ℕ, zero, suc, ◌+◌, ◌-◌, ◌*◌, ◌<◌, ◌≤◌, List, [], ◌∷◌, length, map, get_or, drop, refl, sym, ap, subst, ◌∙◌, arith, add-one}
-use Rattle.std.proofs.lemmas.List.{length-map, drop_all}
+use Rattle.std.proofs.Common.{◌≡◌, ℕ, zero, suc, ◌+◌, ◌-◌, ◌*◌, ◌<◌, ◌≤◌, List, [], ◌∷◌, length, get_or, drop, refl, sym, ap, ◌∙◌, arith, add-one}
+use Rattle.std.proofs.lemmas.List.{drop_all}
 use Rattle.std.proofs.lemmas.Nat.{rows}
 use Rattle.std.proofs.Math.Nat.{mul-le-mul_left}
 use Rattle.lg_space.specs.Rectangle.{IsIn, volume_of, place_in}
@@ -22,14 +22,16 @@ in-drop (range ∷ rect) (x ∷ index) (suc axis) h = in-drop rect index axis h.
 
 -- one axis
 pub record Between (rect : List (ℕ × ℕ)) (index : List ℕ) (axis : ℕ) : Type 0 where
-  pub from : get_or (map (λ (range : ℕ × ℕ). range.0) rect) axis 0 ≤ get_or index axis 0
-  pub below : get_or index axis 0 < get_or (map (λ (range : ℕ × ℕ). range.1) rect) axis 0
+  pub from : (get_or rect axis (0, 0)).0 ≤ get_or index axis 0
+  pub below : get_or index axis 0 < (get_or rect axis (0, 0)).1
 
 pub between_at : (rect : List (ℕ × ℕ)) (index : List ℕ) (axis : ℕ) → IsIn rect index → axis < length rect → Between rect index axis
 between_at [] index axis h lt = absurd (omega arith)
 between_at (range ∷ rect) [] axis h lt = absurd h
 between_at (range ∷ rect) (x ∷ index) zero h lt = record { from = h.0; below = h.1 }
-between_at (range ∷ rect) (x ∷ index) (suc axis) h lt = let b = between_at rect index axis h.2 (omega arith) in record { from = b.from; below = b.below }
+between_at (range ∷ rect) (x ∷ index) (suc axis) h lt =
+    let b = between_at rect index axis h.2 (omega arith) in
+    record { from = b.from; below = b.below }
 
 -- the place so far, in front of the places behind it
 abbrev pub at_axis : (rect : List (ℕ × ℕ)) (index : List ℕ) (axis place : ℕ) → ℕ
@@ -38,11 +40,14 @@ at_axis rect index axis place = place * volume_of (drop axis rect) + place_in (d
 one_axis : (place extent offset volume rest : ℕ) → place * (extent * volume) + (offset * volume + rest) ≡ (place * extent + offset) * volume + rest
 one_axis place extent offset volume rest = grind (arith, rows)
 
+-- the place with one coordinate more
+abbrev pub place_with : (rect : List (ℕ × ℕ)) (index : List ℕ) (axis place : ℕ) → ℕ
+place_with rect index axis place =
+    place * ((get_or rect axis (0, 0)).1 - (get_or rect axis (0, 0)).0) + (get_or index axis 0 - (get_or rect axis (0, 0)).0)
+
 -- the next axis
 pub next_axis : (rect : List (ℕ × ℕ)) (index : List ℕ) (axis place : ℕ) → IsIn rect index → axis < length rect
-    → at_axis rect index axis place ≡ at_axis rect index (suc axis)
-    (place * (get_or (map (λ (range : ℕ × ℕ). range.1) rect) axis 0 - get_or (map (λ (range : ℕ × ℕ). range.0) rect) axis 0)
-    + (get_or index axis 0 - get_or (map (λ (range : ℕ × ℕ). range.0) rect) axis 0))
+    → at_axis rect index axis place ≡ at_axis rect index (suc axis) (place_with rect index axis place)
 next_axis [] index axis place h lt = absurd (omega arith)
 next_axis (range ∷ rect) [] axis place h lt = absurd h
 next_axis (range ∷ rect) (x ∷ index) zero place h lt = one_axis place (range.1 - range.0) (x - range.0) (volume_of rect) (place_in rect index)
@@ -55,33 +60,24 @@ place_so_far rect index axis place total h e =
     let least : place * 1 ≤ place * volume_of (drop axis rect) = mul-le-mul_left place (omega arith) in
     omega arith
 
--- what is known where an axis is reached, of the low and high ends and the coordinates as lists of their own
-pub record AtAxis (rect : List (ℕ × ℕ)) (index lows highs coordinates : List ℕ) (axis place : ℕ) : Type 0 where
-  pub reached : axis < length coordinates
-  pub ordered : get_or lows axis 0 ≤ get_or highs axis 0
-  pub from : get_or lows axis 0 ≤ get_or coordinates axis 0
-  pub small : place * (get_or highs axis 0 - get_or lows axis 0) + (get_or coordinates axis 0 - get_or lows axis 0) < volume_of rect
-  pub next : at_axis rect index (axis + 1) (place * (get_or highs axis 0 - get_or lows axis 0) + (get_or coordinates axis 0 - get_or lows axis 0)) ≡ place_in rect index
+-- what is known where an axis is reached
+pub record AtAxis (rect : List (ℕ × ℕ)) (index : List ℕ) (axis place : ℕ) : Type 0 where
+  pub reached : axis < length index
+  pub between : Between rect index axis
+  pub small : place_with rect index axis place < volume_of rect
+  pub next : at_axis rect index (axis + 1) (place_with rect index axis place) ≡ place_in rect index
 
-pub known_at : (rect : List (ℕ × ℕ)) (index lows highs coordinates : List ℕ) (axis place : ℕ) → IsIn rect index
-    → lows ≡ map (λ (range : ℕ × ℕ). range.0) rect → highs ≡ map (λ (range : ℕ × ℕ). range.1) rect → coordinates ≡ index
-    → axis < length lows → at_axis rect index axis place ≡ place_in rect index → AtAxis rect index lows highs coordinates axis place
-known_at rect index lows highs coordinates axis place h l g c lt e =
-    let lt' : axis < length rect = omega (arith, ap length l, length-map rect (λ (range : ℕ × ℕ). range.0)) in
-    let b = between_at rect index axis h lt' in
-    let whole : AtAxis rect index (map (λ (range : ℕ × ℕ). range.0) rect) (map (λ (range : ℕ × ℕ). range.1) rect) index axis place =
-    (let next = sym (next_axis rect index axis place h lt') ∙ e in
-    let small = place_so_far rect index (suc axis) _ (place_in rect index) h next in
+pub known_at : (rect : List (ℕ × ℕ)) (index : List ℕ) (axis place : ℕ) → IsIn rect index → axis < length rect
+    → at_axis rect index axis place ≡ place_in rect index → AtAxis rect index axis place
+known_at rect index axis place h lt e =
+    let next = sym (next_axis rect index axis place h lt) ∙ e in
+    let small = place_so_far rect index (suc axis) (place_with rect index axis place) (place_in rect index) h next in
     record {
       reached = omega (arith, same_axes rect index h);
-      ordered = omega (arith, b.from, b.below);
-      from = b.from;
+      between = between_at rect index axis h lt;
       small = omega (arith, small, place-below rect index h);
       next = rw add-one next;
-    }) in
-    subst (λ x. AtAxis rect index x highs coordinates axis place) (sym l)
-    (subst (λ x. AtAxis rect index (map (λ (range : ℕ × ℕ). range.0) rect) x coordinates axis place) (sym g)
-    (subst (λ x. AtAxis rect index (map (λ (range : ℕ × ℕ). range.0) rect) (map (λ (range : ℕ × ℕ). range.1) rect) x axis place) (sym c) whole))
+    }
 
 -- past the last axis nothing is left
 pub past_axes : (rect : List (ℕ × ℕ)) (index : List ℕ) (axis place : ℕ) → IsIn rect index → length rect ≤ axis → at_axis rect index axis place ≡ place

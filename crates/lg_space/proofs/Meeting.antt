@@ -74,16 +74,17 @@ storable-meeting a b e h g = record {
 }
 
 -- one more axis
-pub meeting_more : (a b kept : List (ℕ × ℕ)) (axis : ℕ) (x y made : ℕ × ℕ) → axis < length a → axis < length b → axis < length kept
-    → x ≡ get_or a axis x → y ≡ get_or b axis y → made ≡ common_range x y → take axis kept ≡ take axis (meeting a b) → take (axis + 1) (set kept axis made) ≡ take (axis + 1) (meeting a b)
-meeting_more a b kept axis x y made h g room e f is so_far =
+pub meeting_more : (a b kept : List (ℕ × ℕ)) (axis : ℕ) (made : ℕ × ℕ) → length a ≡ length b → axis < length a → axis < length kept
+    → made ≡ common_range (get_or a axis (0, 0)) (get_or b axis (0, 0)) → take axis kept ≡ take axis (meeting a b)
+    → take (axis + 1) (set kept axis made) ≡ take (axis + 1) (meeting a b)
+meeting_more a b kept axis made same h room is so_far =
     take_more_set kept axis made room ∙ ap (λ l. l ++ made ∷ []) so_far
-    ∙ ap (λ z. take axis (meeting a b) ++ z ∷ []) (is ∙ ap (λ z. common_range z y) e ∙ ap (common_range (get_or a axis x)) f ∙ sym (get_or-meeting a b axis made x y h g))
-    ∙ sym (take_more (meeting a b) axis made (meeting_long a b axis h g))
+    ∙ ap (λ z. take axis (meeting a b) ++ z ∷ []) (is ∙ sym (get_or-meeting a b axis made (0, 0) (0, 0) h (omega arith)))
+    ∙ sym (take_more (meeting a b) axis made (meeting_long a b axis h (omega arith)))
 
 -- all axes were written
-pub made_meeting : (a b kept : List (ℕ × ℕ)) (axes axis : ℕ) → length a ≡ length b → axes ≡ length a → axes ≤ axis → axis ≤ axes → take axis kept ≡ take axis (meeting a b)
-    → take axes kept ≡ meeting a b
-made_meeting a b kept axes axis e is past within so_far =
-    let end : axes ≡ axis = omega arith in
+pub made_meeting : (a b kept : List (ℕ × ℕ)) (axis : ℕ) → length a ≡ length b → length a ≤ axis → axis ≤ length a
+    → take axis kept ≡ take axis (meeting a b) → take (length a) kept ≡ meeting a b
+made_meeting a b kept axis e past within so_far =
+    let end : length a ≡ axis = omega arith in
     ap (λ n. take n kept) end ∙ so_far ∙ take_all axis (meeting a b) (omega (arith, length-meeting a b e))

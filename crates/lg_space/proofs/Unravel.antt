@@ -1,8 +1,8 @@
 -- The index at a place, axis by axis from the first one on.
-use Rattle.std.proofs.Common.{◌≡◌, ℕ, zero, suc, ◌+◌, ◌-◌, ◌*◌, ◌/◌, ◌%◌, ◌<◌, ◌≤◌, List, [], ◌∷◌, ◌++◌, length, map, get_or, set, take, drop, refl, sym, ap, subst, ◌∙◌, arith, add-one, append_assoc, append-nil}
+use Rattle.std.proofs.Common.{◌≡◌, ℕ, zero, suc, ◌+◌, ◌-◌, ◌*◌, ◌/◌, ◌%◌, ◌<◌, ◌≤◌, List, [], ◌∷◌, ◌++◌, length, get_or, set, take, drop, refl, sym, ap, subst, ◌∙◌, arith, add-one, append_assoc, append-nil}
 use Rattle.std.proofs.Math.Nat.{div-lt_iff_lt-mul, mul-div_cancel_left, mod-add-div', mul_comm, add_comm, mul-zero, mod-lt}
 use Rattle.std.proofs.Math.Seq.{drop-cons, take-suc-set}
-use Rattle.std.proofs.lemmas.List.{length-map, drop_all}
+use Rattle.std.proofs.lemmas.List.{drop_all}
 use Rattle.lg_space.specs.Rectangle.{IsIn, volume_of, place_in}
 
 -- the coordinates so far are right: any index of the axes behind them that stands at the rest completes the index
@@ -41,27 +41,17 @@ digit low high rest stride volume e lt =
 offset : (low quotient volume : ℕ) → (low + quotient - low) * volume ≡ quotient * volume
 offset low quotient volume = ap (λ n. n * volume) (omega arith)
 
--- one range by its ends
-ends_at : (rect : List (ℕ × ℕ)) (axis : ℕ) → get_or rect axis (0, 0) ≡ (get_or (map (λ (range : ℕ × ℕ). range.0) rect) axis 0, get_or (map (λ (range : ℕ × ℕ). range.1) rect) axis 0)
-ends_at [] axis = refl
-ends_at (range ∷ rect) zero = refl
-ends_at (range ∷ rect) (suc axis) = ends_at rect axis
-
-module _ (rect : List (ℕ × ℕ)) (lows highs at : List ℕ) (k axis rest stride : ℕ) (l : lows ≡ map (λ (range : ℕ × ℕ). range.0) rect) (g : highs ≡ map (λ (range : ℕ × ℕ). range.1) rect)
-    (lt : axis < length lows) (u : Unravels rect at k axis rest stride) where
+module _ (rect : List (ℕ × ℕ)) (at : List ℕ) (k axis rest stride : ℕ) (lt : axis < length rect) (u : Unravels rect at k axis rest stride) where
   volume : ℕ
   volume = volume_of (drop (axis + 1) rect)
 
   x : ℕ
-  x = get_or lows axis 0 + rest / volume
+  x = (get_or rect axis (0, 0)).0 + rest / volume
 
-  front : drop axis rect ≡ (get_or lows axis 0, get_or highs axis 0) ∷ drop (axis + 1) rect
-  front =
-      let lt' : axis < length rect = omega (arith, ap length l, length-map rect (λ (range : ℕ × ℕ). range.0)) in
-      rw add-one (drop-cons rect axis (0, 0) lt' ∙ ap (λ (range : ℕ × ℕ). range ∷ drop (suc axis) rect)
-      (ends_at rect axis ∙ ap (λ (ns : List ℕ). (get_or ns axis 0, get_or (map (λ (range : ℕ × ℕ). range.1) rect) axis 0)) (sym l) ∙ ap (λ (ns : List ℕ). (get_or lows axis 0, get_or ns axis 0)) (sym g)))
+  front : drop axis rect ≡ get_or rect axis (0, 0) ∷ drop (axis + 1) rect
+  front = rw add-one (drop-cons rect axis (0, 0) lt)
 
-  known : Digit (get_or lows axis 0) (get_or highs axis 0) rest stride volume
+  known : Digit (get_or rect axis (0, 0)).0 (get_or rect axis (0, 0)).1 rest stride volume
   unfolding volume
   known = digit _ _ rest stride (volume_of (drop (axis + 1) rect)) (u.stride_is ∙ ap volume_of front) u.within
 
@@ -71,26 +61,26 @@ module _ (rect : List (ℕ × ℕ)) (lows highs at : List ℕ) (k axis rest stri
     stride_is = refl;
     within = mod-lt rest known.positive;
     completes = λ index h e.
-        (let inside : IsIn ((get_or lows axis 0, get_or highs axis 0) ∷ drop (axis + 1) rect) (x ∷ index) = (omega arith, known.below, h) in
-        let place : place_in ((get_or lows axis 0, get_or highs axis 0) ∷ drop (axis + 1) rect) (x ∷ index) ≡ rest = omega (arith, known.again, e, offset (get_or lows axis 0) (rest / volume) volume) in
+        (let inside : IsIn (get_or rect axis (0, 0) ∷ drop (axis + 1) rect) (x ∷ index) = (omega arith, known.below, h) in
+        let place : place_in (get_or rect axis (0, 0) ∷ drop (axis + 1) rect) (x ∷ index) ≡ rest =
+        omega (arith, known.again, e, offset (get_or rect axis (0, 0)).0 (rest / volume) volume) in
         let done = u.completes (x ∷ index) (subst (λ r. IsIn r (x ∷ index)) (sym front) inside) (ap (λ r. place_in r (x ∷ index)) front ∙ place) in
         let one : axis + 1 ≡ suc axis = omega arith in
-        let same : take (axis + 1) (set at axis x) ++ index ≡ take axis at ++ x ∷ index = ap (λ n. take n (set at axis x) ++ index) one ∙ ap (λ l. l ++ index) (take-suc-set at axis x room) ∙ append_assoc (take axis at) (x ∷ []) index in
+        let same : take (axis + 1) (set at axis x) ++ index ≡ take axis at ++ x ∷ index =
+        ap (λ n. take n (set at axis x) ++ index) one ∙ ap (λ l. l ++ index) (take-suc-set at axis x room) ∙ append_assoc (take axis at) (x ∷ []) index in
         subst (λ (i : List ℕ). IsIn rect i × (place_in rect i ≡ k)) (sym same) done);
   }
 
   -- what is known where an axis is reached, of the stride behind it
   pub record Turn (behind : ℕ) : Type 0 where
-    pub reached : axis < length highs
-    pub extent : 0 < get_or highs axis 0 - get_or lows axis 0
+    pub extent : 0 < (get_or rect axis (0, 0)).1 - (get_or rect axis (0, 0)).0
     pub positive : 0 < behind
-    pub below : get_or lows axis 0 + rest / behind < get_or highs axis 0
-    pub next : axis < length at → Unravels rect (set at axis (get_or lows axis 0 + rest / behind)) k (axis + 1) (rest % behind) behind
+    pub below : (get_or rect axis (0, 0)).0 + rest / behind < (get_or rect axis (0, 0)).1
+    pub next : axis < length at → Unravels rect (set at axis ((get_or rect axis (0, 0)).0 + rest / behind)) k (axis + 1) (rest % behind) behind
 
-  pub turn : Turn (stride / (get_or highs axis 0 - get_or lows axis 0))
+  pub turn : Turn (stride / ((get_or rect axis (0, 0)).1 - (get_or rect axis (0, 0)).0))
   unfolding volume x
   turn = subst Turn (sym known.smaller) (record {
-    reached = omega (arith, lt, ap length l, ap length g, length-map rect (λ (range : ℕ × ℕ). range.0), length-map rect (λ (range : ℕ × ℕ). range.1));
     extent = omega (arith, known.ordered);
     positive = known.positive;
     below = known.below;
@@ -111,10 +101,10 @@ unravels_all rect at k axis rest stride past u =
     subst (λ (i : List ℕ). IsIn rect i × (place_in rect i ≡ k)) (append-nil (take axis at)) done
 
 -- what was written is the index
-pub unraveled : (rect : List (ℕ × ℕ)) (lows at result : List ℕ) (k axis rest stride : ℕ) → lows ≡ map (λ (range : ℕ × ℕ). range.0) rect → length lows ≤ axis → axis ≤ length lows
-    → result ≡ take (length lows) at → Unravels rect at k axis rest stride → IsIn rect result × (place_in rect result ≡ k)
-unraveled rect lows at result k axis rest stride l past within e u =
-    let all = unravels_all rect at k axis rest stride (omega (arith, ap length l, length-map rect (λ (range : ℕ × ℕ). range.0))) u in
-    let end : axis ≡ length lows = omega arith in
+pub unraveled : (rect : List (ℕ × ℕ)) (at result : List ℕ) (k axis rest stride : ℕ) → length rect ≤ axis → axis ≤ length rect
+    → result ≡ take (length rect) at → Unravels rect at k axis rest stride → IsIn rect result × (place_in rect result ≡ k)
+unraveled rect at result k axis rest stride past within e u =
+    let all = unravels_all rect at k axis rest stride past u in
+    let end : axis ≡ length rect = omega arith in
     let same : take axis at ≡ result = ap (λ n. take n at) end ∙ sym e in
     subst (λ (i : List ℕ). IsIn rect i × (place_in rect i ≡ k)) same all

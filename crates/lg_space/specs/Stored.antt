@@ -1,6 +1,6 @@
 -- Which rectangles and points there are in a program. The limits are this project's own. The greatest
 -- number of axes, `MAX_AXES`, is the constant of the code.
-use Rattle.std.specs.Prelude.{◌≡◌, ℕ, ◌≤◌, ◌^◌, ◌-◌, List, ◌++◌, length, take, replicate, zip, All}
+use Rattle.std.specs.Prelude.{◌≡◌, ℕ, ◌≤◌, ◌^◌, ◌-◌, List, ◌++◌, length, take, replicate, All}
 use Rattle.lg_space.specs.Rectangle.{volume_of}
 use Rattle.lg_space.specs.declared.point.TheConstants.{MAX_AXES}
 
@@ -19,18 +19,17 @@ pub record IsStorable (rect : List (ℕ × ℕ)) : Type 0 where
   pub ends : All (λ range. range.1 ≤ MAX_END) rect
   pub volume : volume_of rect ≤ MAX_VOLUME
 
--- so many numbers as there may be axes: those of the axes, and the filler behind them
-abbrev pub padded : ℕ → List ℕ → List ℕ
-padded filler numbers = numbers ++ replicate (MAX_AXES - length numbers) filler
+-- so many entries as there may be axes: those of the axes, and the filler behind them
+abbrev pub padded : {A : Type 0} → A → List A → List A
+padded filler entries = entries ++ replicate (MAX_AXES - length entries) filler
 
 -- the coordinates of the axes, and zeros behind them
 pub record IsPoint (axes : ℕ) (at : List ℕ) : Type 0 where
   pub few : axes ≤ MAX_AXES
   pub filled : at ≡ padded 0 (take axes at)
 
--- the ends of a rectangle's ranges, and ranges from 0 to 1 behind them
-pub record IsRect (axes : ℕ) (lo hi : List ℕ) : Type 0 where
+-- the ranges of the axes, and ranges from 0 to 0 behind them
+pub record IsRect (axes : ℕ) (ranges : List (ℕ × ℕ)) : Type 0 where
   pub few : axes ≤ MAX_AXES
-  pub lo_filled : lo ≡ padded 0 (take axes lo)
-  pub hi_filled : hi ≡ padded 1 (take axes hi)
-  pub storable : IsStorable (zip (take axes lo) (take axes hi))
+  pub filled : ranges ≡ padded (0, 0) (take axes ranges)
+  pub storable : IsStorable (take axes ranges)

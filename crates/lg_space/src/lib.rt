@@ -5,10 +5,13 @@
 #![tactic(auto)]
 
 pub mod examples;
+mod fixed;
 pub mod laws;
 mod point;
+mod ranges;
 mod rect;
 
+pub use fixed::Rect;
 pub use point::{MAX_AXES, Point};
 pub use rect::AnyRect;
 

@@ -1,7 +1,7 @@
 // Rectangles with each number of axes. The expected places are worked out by hand, from the order in which the last axis
 // runs fastest.
 
-use crate::{AnyRect, Point};
+use crate::{AnyRect, Point, Rect};
 use std::process::Abort;
 use std::test::Fail;
 
@@ -34,6 +34,21 @@ fn two_axes(rt: HostRuntime) -> Result<(), Fail> {
 }
 
 #[test]
+fn two_axes_known_in_advance(rt: HostRuntime) -> Result<(), Fail> {
+    let rect = Rect::<2>::new(&[(1, 3), (2, 5)]);
+    let index = Point::new(&[2, 3]);
+    assert!(rt; rect.contains(&index) && !rect.contains(&Point::new(&[2])));
+    assert_eq!(rt; rect.ravel(&index), 4);
+    assert!(rt; rect.unravel(4) == index);
+    assert_eq!(rt; rect.volume(), 6);
+    assert_eq!(rt; rect.range(0), (1, 3));
+    assert!(rt; rect.intersect(&Rect::new(&[(0, 2), (4, 9)])) == Rect::new(&[(1, 2), (4, 5)]));
+    assert!(rt; rect.to_any() == AnyRect::new(&[(1, 3), (2, 5)]));
+    assert!(rt; Rect::from_any(&rect.to_any()) == rect);
+    Ok(())
+}
+
+#[test]
 fn more_axes(rt: HostRuntime) -> Result<(), Fail> {
     let three = AnyRect::new(&[(1, 3), (0, 2), (4, 7)]);
     stands_at(&rt, &three, &Point::new(&[2, 0, 5]), 7);
@@ -59,5 +74,6 @@ fn crosses_threads<T: Send + Sync>() {}
 fn points_and_rectangles_cross_threads(_rt: HostRuntime) -> Result<(), Fail> {
     crosses_threads::<Point>();
     crosses_threads::<AnyRect>();
+    crosses_threads::<Rect<4>>();
     Ok(())
 }
