@@ -1,12 +1,13 @@
 -- Laws of the tiles of a shape, over lists of any length.
 use Rattle.std.specs.Prelude.{◌≡◌, ℕ, ◌<◌, ◌≤◌, Bool, List, length, Some, slice_get}
+use Rattle.lg_space.specs.Rectangle.{IsIn}
 use Rattle.lg_space.specs.Partition.{Partitions}
 use Rattle.lg_shape.specs.Shapes.{whole}
 use Rattle.lg_shape.specs.Tiling.{parts, tiles}
 
 -- the tiles are in the shape, and each index of it is in exactly one of them
 abbrev pub TilesPartition : Type 0
-TilesPartition = (pieces : ℕ) (shape : List ℕ) (whole_axes : List Bool) → 1 ≤ pieces → Partitions (tiles pieces shape whole_axes) (whole shape)
+TilesPartition = (pieces : ℕ) (shape : List ℕ) (whole_axes : List Bool) → 1 ≤ pieces → Partitions (tiles pieces shape whole_axes) (IsIn (whole shape))
 
 -- there is a tile, and there are at most as many as pieces are wanted
 abbrev pub TilesCount : Type 0

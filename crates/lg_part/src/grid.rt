@@ -1,5 +1,5 @@
 ghost use Rattle.std.specs.Prelude.{◌≡◌, ℕ, ◌<◌, ◌≤◌, length, max, slice_get, IfOk, Some};
-ghost use Rattle.lg_space.specs.Rectangle.{combinations};
+ghost use Rattle.lg_space.specs.Rectangle.{IsIn, combinations};
 ghost use Rattle.lg_space.specs.Partition.{Partitions};
 ghost use Rattle.lg_space.specs.Stored.{MAX_END, MAX_VOLUME};
 ghost use Rattle.lg_shape.specs.Shapes.{size_of, whole as whole_of};
@@ -60,7 +60,7 @@ pub fn colors(pieces: u32, shape: &Shape, whole: &[bool; 4]) -> Grid
     requires few { pieces ≤ 64 }
     requires small { size_of shape.now ≤ MAX_VOLUME }
     ensures value { result ≡ axis_parts pieces shape.now whole.now }
-    ensures partition { Partitions (combinations result) (whole_of shape.now) }
+    ensures partition { Partitions (combinations result) (IsIn (whole_of shape.now)) }
 {
     let extents = shape.extents();
     let mut sizes = [0; 4];

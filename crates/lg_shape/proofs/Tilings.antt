@@ -104,7 +104,7 @@ module _ (axes : List (List (ℕ × ℕ))) (shape : List ℕ) (cut : CutsAll axe
       let p = combination_of axes number tile at in
       picked_tile axes shape p.0 tile cut p.1
 
-  pub combinations_partition : Partitions (combinations axes) (whole shape)
+  pub combinations_partition : Partitions (combinations axes) (IsIn (whole shape))
   combinations_partition = record {
     cover = λ index inside.
         let c = covering axes shape index cut inside in
@@ -131,7 +131,7 @@ axis_parts_cut pieces (extent ∷ shape) [] h =
     (parts_axis pieces extent h, axis_parts_cut (pieces / part_count pieces extent) shape [] (pieces_left pieces extent h))
 
 -- each index of the shape is in exactly one tile
-pub tiles_partition : (pieces : ℕ) (shape : List ℕ) (whole_axes : List Bool) → 1 ≤ pieces → Partitions (tiles pieces shape whole_axes) (whole shape)
+pub tiles_partition : (pieces : ℕ) (shape : List ℕ) (whole_axes : List Bool) → 1 ≤ pieces → Partitions (tiles pieces shape whole_axes) (IsIn (whole shape))
 tiles_partition pieces shape whole_axes h =
     combinations_partition (axis_parts pieces shape whole_axes) shape (axis_parts_cut pieces shape whole_axes h)
 

@@ -1,5 +1,5 @@
 use Rattle.std.proofs.Common.{◌≡◌, ◌≤◌, false, length, get_or, take, sym, ap, ◌∙◌, subst, arith}
-use Rattle.lg_space.specs.Rectangle.{combinations}
+use Rattle.lg_space.specs.Rectangle.{IsIn, combinations}
 use Rattle.lg_space.specs.Partition.{Partitions}
 use Rattle.lg_space.specs.Stored.{IsStorable}
 use Rattle.lg_shape.specs.Shapes.{whole}
@@ -60,5 +60,5 @@ returns-clause-partition c =
     let h = cut (goal.at.returns-clause-partition c).After-loop-axis in
     let axes = axes_of c.args.shape.now c.loop-axis.sizes (take (length c.args.shape.now) c.loop-axis.numbers) in
     let is_cut = all_cut c.args.pieces c.args.shape.now c.args.whole.now c.loop-axis.sizes c.loop-axis.numbers c.loop-axis.left h in
-    subst (λ colors. Partitions (combinations (axes_of c.args.shape.now c.loop-axis.sizes colors)) (whole c.args.shape.now)) (sym (kept c))
+    subst (λ colors. Partitions (combinations (axes_of c.args.shape.now c.loop-axis.sizes colors)) (IsIn (whole c.args.shape.now))) (sym (kept c))
     (combinations_partition axes c.args.shape.now (axes_cut c.args.shape.now c.loop-axis.sizes (take (length c.args.shape.now) c.loop-axis.numbers) is_cut))
