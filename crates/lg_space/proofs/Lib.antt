@@ -4,3 +4,5 @@ pub mod Inside
 pub mod Unravel
 pub mod Meeting
 pub mod Kept
+pub mod Splitting
+pub mod Parting

@@ -4,6 +4,7 @@
 //! The indices of a rectangle have an order, in which the last axis runs fastest, and so each has a place.
 #![tactic(auto)]
 
+mod cutting;
 pub mod examples;
 mod fixed;
 pub mod laws;

@@ -1,9 +1,13 @@
-ghost use Rattle.std.specs.Prelude.{◌≡◌, ℕ, ◌<◌, ◌≤◌, ◌↔◌, List, length, slice_get, Some, IsTrue};
+ghost use Rattle.std.specs.Prelude.{◌≡◌, ℕ, ◌<◌, ◌≤◌, ◌↔◌, List, length, slice_get, Some, IsTrue, All};
 ghost use Rattle.lg_space.specs.Rectangle.{IsIn, indices, place_in, volume_of};
+ghost use Rattle.lg_space.specs.Partition.{Partitions};
 ghost use Rattle.lg_space.specs.Stored.{IsStorable};
 
+use crate::cutting::{push_filled, split};
 use crate::point::Point;
 use crate::ranges;
+use smallvec::SmallVec;
+use std::alloc::Global;
 use std::marker::Model;
 
 /// A rectangle of indices with up to four axes: for each axis a range of coordinates, from its low end up to its high end,
@@ -29,6 +33,17 @@ impl Model for AnyRect {
     ghost inverse = { λ rect. record { axes = length rect; ranges = padded (0, 0) rect } };
 
     ghost inverse_ok = { rect_again };
+}
+
+/// The rectangle without axes, which a small vector has in its unused places.
+impl Default for AnyRect {
+    ghost use Rattle.std.specs.Prelude.{◌≡◌, []};
+
+    ghost is_default = { λ rect. rect ≡ [] };
+
+    fn default() -> AnyRect {
+        AnyRect::new(&[])
+    }
 }
 
 impl AnyRect {
@@ -89,6 +104,28 @@ impl AnyRect {
         ensures both { (index : List ℕ) → IsIn result index ↔ (IsIn self.now index × IsIn other.now index) }
     {
         ranges::intersect(self.ranges(), other.ranges())
+    }
+
+    /// The indices that are not in the other rectangle, in at most eight parts that have no index in common. No part is
+    /// empty. It takes no memory: the parts lie in the value that is answered.
+    pub fn subtract(&self, alloc: Global, other: &AnyRect) -> SmallVec<AnyRect, 8>
+        requires { length self.now ≡ length other.now }
+        ensures parts { Partitions result.items (λ index. IsIn self.now index × ¬ IsIn other.now index) }
+        ensures axes { All (λ part. length part ≡ length self.now) result.items }
+        ensures filled { All (λ part. 0 < volume_of part) result.items }
+        ensures few { length result.items ≤ 8 }
+        ensures inline { result.capacity ≡ 8 }
+    {
+        let mut parts = SmallVec::new(alloc);
+        let mut rest = *self;
+        for (axis, range) in other.ranges().iter().enumerate() {
+            let (below, from) = split(&rest, axis, range.0);
+            let (within, above) = split(&from, axis, range.1);
+            push_filled(&mut parts, below);
+            push_filled(&mut parts, above);
+            rest = within;
+        }
+        parts
     }
 
     /// How many indices come before this one in row-major order, in which the last axis runs fastest (NumPy's reference,

@@ -2,6 +2,7 @@
 // runs fastest.
 
 use crate::{AnyRect, Point, Rect};
+use smallvec::SmallVec;
 use std::process::Abort;
 use std::test::Fail;
 
@@ -64,6 +65,44 @@ fn what_two_rectangles_share(rt: HostRuntime) -> Result<(), Fail> {
     assert!(rt; both == AnyRect::new(&[(1, 4), (2, 5)]));
     // A range from 0 to 1 adds no index, but an axis.
     assert!(rt; AnyRect::new(&[]) != AnyRect::new(&[(0, 1)]));
+    Ok(())
+}
+
+// So many parts are left, which hold so many indices in all.
+fn left_over(rt: &impl Abort, left: &SmallVec<AnyRect, 8>, parts: usize, volume: u64) {
+    assert_eq!(rt; left.len(), parts);
+    let mut sum = 0u64;
+    for part in left.as_slice() {
+        sum = sum.wrapping_add(part.volume());
+    }
+    assert_eq!(rt; sum, volume);
+}
+
+#[test]
+fn what_is_left(rt: HostRuntime) -> Result<(), Fail> {
+    let alloc = rt.alloc();
+    let square = AnyRect::new(&[(0, 3), (0, 3)]);
+    let within = AnyRect::new(&[(1, 2), (1, 2)]);
+    let beside = AnyRect::new(&[(5, 7), (1, 2)]);
+    let around = AnyRect::new(&[(0, 3), (0, 9)]);
+    left_over(&rt, &square.subtract(alloc, &within), 4, 8);
+    left_over(&rt, &square.subtract(alloc, &beside), 1, 9);
+    left_over(&rt, &square.subtract(alloc, &around), 0, 0);
+
+    let none = AnyRect::new(&[]);
+    left_over(&rt, &none.subtract(alloc, &none), 0, 0);
+    let empty = AnyRect::new(&[(0, 4), (3, 3)]);
+    left_over(&rt, &empty.subtract(alloc, &within), 0, 0);
+
+    let four = AnyRect::new(&[(0, 3), (0, 3), (0, 3), (0, 3)]);
+    let hole = AnyRect::new(&[(1, 2), (1, 2), (1, 2), (1, 2)]);
+    left_over(&rt, &four.subtract(alloc, &hole), 8, 80);
+    Ok(())
+}
+
+#[test]
+fn no_axes_by_default(rt: HostRuntime) -> Result<(), Fail> {
+    assert!(rt; AnyRect::default() == AnyRect::new(&[]));
     Ok(())
 }
 
