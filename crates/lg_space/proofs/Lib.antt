@@ -6,3 +6,4 @@ pub mod Meeting
 pub mod Kept
 pub mod Splitting
 pub mod Parting
+pub mod Next

@@ -1,6 +1,6 @@
 //! What holds of the list of all indices of a rectangle, for any number of axes. Each law is a function's contract.
 
-ghost use Rattle.lg_space.specs.Laws.{VolumeCounts, StandsAtPlace, StandsOnce};
+ghost use Rattle.lg_space.specs.Laws.{VolumeCounts, StandsAtPlace, StandsOnce, SideBySide};
 
 /// The volume of a rectangle is the length of the list of all its indices.
 pub fn volume_counts()
@@ -12,4 +12,9 @@ pub fn volume_counts()
 pub fn places_are_exact()
     ensures there { StandsAtPlace }
     ensures once { StandsOnce }
+{}
+
+/// Indices that differ on the last axis alone stand side by side, in the order of that coordinate.
+pub fn rows_are_contiguous()
+    ensures { SideBySide }
 {}

@@ -1,5 +1,5 @@
 //! What rectangles of both kinds do, said once over the ranges of their axes.
-ghost use Rattle.std.specs.Prelude.{◌≡◌, ℕ, ◌<◌, ◌≤◌, ◌↔◌, List, length, slice_get, Some, IsTrue};
+ghost use Rattle.std.specs.Prelude.{◌≡◌, ℕ, ◌+◌, ◌<◌, ◌≤◌, ◌↔◌, List, length, slice_get, Some, IsTrue};
 ghost use Rattle.lg_space.specs.Rectangle.{IsIn, indices, place_in, volume_of};
 ghost use Rattle.lg_space.specs.Stored.{MAX_VOLUME, IsStorable, padded};
 ghost use Rattle.lg_space.specs.Common.{common_range};
@@ -99,4 +99,25 @@ pub fn unravel(ranges: &[(u64, u64)], k: u64) -> Point
         rest %= stride;
     }
     Point::new(&at[..ranges.len()])
+}
+
+/// The index at the next place in row-major order, or none at the last place: the last coordinate that
+/// can goes up by one, and those behind it begin anew.
+pub fn next(ranges: &[(u64, u64)], index: &[u64]) -> Option<Point>
+    requires storable { IsStorable ranges.now }
+    requires inside { IsIn ranges.now index.now }
+    ensures { result ≡ slice_get (indices ranges.now) (place_in ranges.now index.now + 1) }
+{
+    let mut at = [0; 4];
+    at[..index.len()].copy_from_slice(index);
+    for axis in (0..ranges.len()).rev() {
+        let (low, high) = ranges[axis];
+        let up = at[axis] + 1;
+        if up < high {
+            at[axis] = up;
+            return Some(Point::new(&at[..ranges.len()]));
+        }
+        at[axis] = low;
+    }
+    None
 }

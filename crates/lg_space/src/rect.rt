@@ -1,4 +1,4 @@
-ghost use Rattle.std.specs.Prelude.{◌≡◌, ℕ, ◌<◌, ◌≤◌, ◌↔◌, List, length, slice_get, Some, IsTrue, All};
+ghost use Rattle.std.specs.Prelude.{◌≡◌, ℕ, ◌+◌, ◌<◌, ◌≤◌, ◌↔◌, List, length, slice_get, Some, IsTrue, All};
 ghost use Rattle.lg_space.specs.Rectangle.{IsIn, indices, place_in, volume_of};
 ghost use Rattle.lg_space.specs.Partition.{Partitions};
 ghost use Rattle.lg_space.specs.Stored.{IsStorable};
@@ -148,5 +148,13 @@ impl AnyRect {
         ensures value { place_in self.now result ≡ k }
     {
         ranges::unravel(self.ranges(), k)
+    }
+
+    /// The index at the next place in row-major order, and none at the last place.
+    pub fn next(&self, p: &Point) -> Option<Point>
+        requires { IsIn self.now p.now }
+        ensures { result ≡ slice_get (indices self.now) (place_in self.now p.now + 1) }
+    {
+        ranges::next(self.ranges(), p.coordinates())
     }
 }

@@ -59,6 +59,18 @@ fn more_axes(rt: HostRuntime) -> Result<(), Fail> {
     Ok(())
 }
 
+// From the first index on, each next one has the next place, and the last one has none.
+#[test]
+fn one_after_another(rt: HostRuntime) -> Result<(), Fail> {
+    let rect = AnyRect::new(&[(1, 3), (2, 4)]);
+    assert!(rt; rect.next(&Point::new(&[1, 2])) == Some(Point::new(&[1, 3])));
+    assert!(rt; rect.next(&Point::new(&[1, 3])) == Some(Point::new(&[2, 2])));
+    assert!(rt; rect.next(&Point::new(&[2, 2])) == Some(Point::new(&[2, 3])));
+    assert!(rt; rect.next(&Point::new(&[2, 3])) == None);
+    assert!(rt; AnyRect::new(&[]).next(&Point::new(&[])) == None);
+    Ok(())
+}
+
 #[test]
 fn what_two_rectangles_share(rt: HostRuntime) -> Result<(), Fail> {
     let both = AnyRect::new(&[(0, 4), (2, 6)]).intersect(&AnyRect::new(&[(1, 9), (0, 5)]));
