@@ -6,9 +6,11 @@ use Rattle.lg_space.specs.Stored.{MAX_VOLUME}
 use Rattle.lg_shape.specs.Shapes.{size_of}
 use Rattle.lg_shape.specs.Tiling.{part}
 
--- the parts of each axis, by the extent of the axis, the extent of a part and the numbers of the parts
+-- the parts of each axis, by the extent of the axis, the extent of a part and the numbers of the
+-- parts
 abbrev pub axes_of : List ℕ → List ℕ → List (ℕ × ℕ) → List (List (ℕ × ℕ))
-axes_of (extent ∷ shape) (size ∷ sizes) (numbers ∷ colors) = map (part extent size) (numbers_in numbers) ∷ axes_of shape sizes colors
+axes_of (extent ∷ shape) (size ∷ sizes) (numbers ∷ colors) =
+    map (part extent size) (numbers_in numbers) ∷ axes_of shape sizes colors
 axes_of shape sizes colors = []
 
 -- an axis of this extent is cut into so many parts of this size, which is not above the extent but
@@ -24,7 +26,8 @@ pub record IsCutAxis (extent size : ℕ) (numbers : ℕ × ℕ) : Type 0 where
 -- each axis is cut. There may be more sizes than axes
 abbrev pub IsCutShape : List ℕ → List ℕ → List (ℕ × ℕ) → Type 0
 IsCutShape [] sizes [] = Unit {0}
-IsCutShape (extent ∷ shape) (size ∷ sizes) (numbers ∷ colors) = IsCutAxis extent size numbers × IsCutShape shape sizes colors
+IsCutShape (extent ∷ shape) (size ∷ sizes) (numbers ∷ colors) =
+    IsCutAxis extent size numbers × IsCutShape shape sizes colors
 IsCutShape shape sizes colors = ⊥
 
 -- the cut of a shape with up to four axes

@@ -7,13 +7,19 @@ use Rattle.lg_shape.specs.Tiling.{parts, tiles}
 
 -- the tiles are in the shape, and each index of it is in exactly one of them
 abbrev pub TilesPartition : Type 0
-TilesPartition = (pieces : ℕ) (shape : List ℕ) (whole_axes : List Bool) → 1 ≤ pieces → Partitions (tiles pieces shape whole_axes) (IsIn (whole shape))
+TilesPartition =
+    (pieces : ℕ) (shape : List ℕ) (whole_axes : List Bool) → 1 ≤ pieces
+    → Partitions (tiles pieces shape whole_axes) (IsIn (whole shape))
 
 -- there is a tile, and there are at most as many as pieces are wanted
 abbrev pub TilesCount : Type 0
 TilesCount =
-    (pieces : ℕ) (shape : List ℕ) (whole_axes : List Bool) → 1 ≤ pieces → (1 ≤ length (tiles pieces shape whole_axes)) × (length (tiles pieces shape whole_axes) ≤ pieces)
+    (pieces : ℕ) (shape : List ℕ) (whole_axes : List Bool) → 1 ≤ pieces
+    → (1 ≤ length (tiles pieces shape whole_axes))
+    × (length (tiles pieces shape whole_axes) ≤ pieces)
 
 -- a part of an axis that is not empty is not empty
 abbrev pub PartsFilled : Type 0
-PartsFilled = (pieces extent number : ℕ) (range : ℕ × ℕ) → 1 ≤ pieces → 1 ≤ extent → slice_get (parts pieces extent) number ≡ Some range → range.0 < range.1
+PartsFilled =
+    (pieces extent number : ℕ) (range : ℕ × ℕ) → 1 ≤ pieces → 1 ≤ extent
+    → slice_get (parts pieces extent) number ≡ Some range → range.0 < range.1

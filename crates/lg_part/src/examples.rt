@@ -19,8 +19,9 @@ pub fn axes_by_example()
         ∷ ((1, 2) ∷ (0, 2) ∷ []) ∷ ((1, 2) ∷ (2, 3) ∷ []) ∷ [] }
     ensures single { length (tiles 64 (3 ∷ 5 ∷ []) []) ≡ 15 }
     ensures last { slice_get (tiles 64 (3 ∷ 5 ∷ []) []) 14 ≡ Some ((2, 3) ∷ (4, 5) ∷ []) }
-    ensures whole_between { tiles 4 (2 ∷ 5 ∷ 2 ∷ []) (false ∷ true ∷ []) ≡ ((0, 1) ∷ (0, 5) ∷ (0, 1) ∷ [])
-        ∷ ((0, 1) ∷ (0, 5) ∷ (1, 2) ∷ []) ∷ ((1, 2) ∷ (0, 5) ∷ (0, 1) ∷ [])
+    ensures whole_between { tiles 4 (2 ∷ 5 ∷ 2 ∷ []) (false ∷ true ∷ [])
+        ≡ ((0, 1) ∷ (0, 5) ∷ (0, 1) ∷ []) ∷ ((0, 1) ∷ (0, 5) ∷ (1, 2) ∷ [])
+        ∷ ((1, 2) ∷ (0, 5) ∷ (0, 1) ∷ [])
         ∷ ((1, 2) ∷ (0, 5) ∷ (1, 2) ∷ []) ∷ [] }
     ensures empty { tiles 3 (0 ∷ 4 ∷ []) [] ≡ ((0, 0) ∷ (0, 2) ∷ []) ∷ ((0, 0) ∷ (2, 4) ∷ []) ∷ [] }
     ensures none { tiles 3 [] [] ≡ [] ∷ [] }

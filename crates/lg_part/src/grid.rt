@@ -11,14 +11,15 @@ use lg_space::AnyRect;
 use std::alloc::Global;
 use std::marker::Model;
 
-/// A shape cut into tiles: each axis is cut into parts, and each combination of parts is a tile. Contracts see the list of
-/// the parts of each axis, a part as its low and its high end.
+/// A shape cut into tiles: each axis is cut into parts, and each combination of parts is a tile.
+/// Contracts see the list of the parts of each axis, a part as its low and its high end.
 #[derive(Debug, Drop)]
 pub struct Grid {
     shape: Shape,
     // The extent of the parts of each axis, of which the last one may be shorter.
     sizes: [u64; 4],
-    // The numbers of the parts of each axis. An index of this rectangle tells a tile, and its place the colour.
+    // The numbers of the parts of each axis. An index of this rectangle tells a tile, and its place
+    // the colour.
     colors: AnyRect,
 }
 
@@ -51,10 +52,11 @@ fn count_of_parts(size: u64, extent: u64) -> u64
     extent.div_ceil(size).max(1)
 }
 
-/// Cuts a shape into at most `pieces` tiles, from its first axis on. An axis that is to stay whole has one part. On any
-/// other one the parts have the least extent, from 1 on, with which as many of them as there are pieces left reach the end
-/// of the axis; there are just so many as it then takes, at least one, and the last one may be shorter. For the axes behind
-/// it the pieces that were left are divided by the number of its parts, rounded down. The rule is this project's own.
+/// Cuts a shape into at most `pieces` tiles, from its first axis on. An axis that is to stay whole
+/// has one part. On any other one the parts have the least extent, from 1 on, with which as many of
+/// them as there are pieces left reach the end of the axis; there are just so many as it then
+/// takes, at least one, and the last one may be shorter. For the axes behind it the pieces that
+/// were left are divided by the number of its parts, rounded down. The rule is this project's own.
 pub fn colors(pieces: u32, shape: &Shape, whole: &[bool; 4]) -> Grid
     requires some { 1 ≤ pieces }
     requires few { pieces ≤ 64 }

@@ -1,5 +1,5 @@
-//! What holds of the tiles of each shape, for any number of axes and of pieces from 1 on. Each law is a
-//! function's contract.
+//! What holds of the tiles of each shape, for any number of axes and of pieces from 1 on. Each law
+//! is a function's contract.
 
 ghost use Rattle.lg_part.specs.Laws.{TilesPartition, TilesCount, PartsFilled};
 

@@ -94,8 +94,8 @@ fn cuts_several_axes_or_none(rt: HostRuntime) -> Result<(), Fail> {
     Ok(())
 }
 
-// Four pieces give an axis of 5 only three parts, and then one piece is left, which cuts nothing. An empty axis has one
-// part, and all pieces are left.
+// Four pieces give an axis of 5 only three parts, and then one piece is left, which cuts nothing.
+// An empty axis has one part, and all pieces are left.
 #[test]
 fn shares_the_pieces_that_are_left(rt: HostRuntime) -> Result<(), Fail> {
     let alloc = rt.alloc();

@@ -1,10 +1,10 @@
 -- The index at the next place, and places side by side.
-use Rattle.std.proofs.Common.{◌≡◌, ◌≢◌, ℕ, zero, suc, ◌+◌, ◌-◌, ◌*◌, ◌<◌, ◌≤◌, List, [], ◌∷◌, ◌++◌, length, get_or, set, take, Some, None, slice_get, refl, sym, ap, ◌∙◌, inl, inr, arith, length-take}
+use Rattle.std.proofs.Common.{◌≡◌, ◌≢◌, ℕ, zero, suc, ◌+◌, ◌-◌, ◌*◌, ◌<◌, ◌≤◌, ◌↔◌, List, [], ◌∷◌, ◌++◌, length, get_or, set, take, Option, Some, None, IsSome, IfSome, slice_get, refl, sym, ap, ◌∙◌, inl, inr, arith, length-take}
 use Rattle.std.proofs.lemmas.Bool.{cases_lt}
 use Rattle.std.proofs.lemmas.List.{length-set, get_or-take, get_or-set_same, get_or-set_other}
-use Rattle.std.proofs.lemmas.Option.{slice_get_past}
+use Rattle.std.proofs.lemmas.Option.{slice_get_past, slice_get_within, slice_get-get_or}
 use Rattle.lg_space.specs.Rectangle.{indices, IsIn, volume_of, place_in}
-use Rattle.lg_space.proofs.Places.{volume_counts, stands_at_place}
+use Rattle.lg_space.proofs.Places.{volume_counts, stands_at_place, stands_once}
 use Rattle.lg_space.proofs.Inside.{between_at}
 
 -- one more times a number
@@ -127,6 +127,20 @@ pub at_the_end : (rect : List (ℕ × ℕ)) (index at : List ℕ) → IsIn rect 
 at_the_end rect index at inside h =
     let end = last_place rect index inside (λ k lt. h.last k (omega arith) lt) in
     sym (slice_get_past (indices rect) (place_in rect index + 1) (omega (arith, end, volume_counts rect)))
+
+-- ---- what stands at the next place
+
+-- it is an index of the rectangle, and that is its place
+pub found_inside : (rect : List (ℕ × ℕ)) (k : ℕ) (found : Option (List ℕ)) → found ≡ slice_get (indices rect) k
+    → IfSome found (λ q. IsIn rect q × (place_in rect q ≡ k))
+found_inside rect k None e = tt
+found_inside rect k (Some q) e = stands_once rect k q (sym e)
+
+-- there is one below the volume
+pub found_below : (rect : List (ℕ × ℕ)) (k : ℕ) (found : Option (List ℕ)) → found ≡ slice_get (indices rect) k
+    → IsSome found ↔ (k < volume_of rect)
+found_below rect k None e = (λ h. absurd (cc), λ h. (let at = slice_get-get_or (indices rect) k [] (omega (arith, volume_counts rect)) in absurd (cc)))
+found_below rect k (Some q) e = (λ h. omega (arith, slice_get_within (indices rect) k q (sym e), volume_counts rect), λ h. refl)
 
 -- ---- the law
 

@@ -1,4 +1,5 @@
--- The indices of a rectangle are the combinations of the numbers of its ranges, and so have their places.
+-- The indices of a rectangle are the combinations of the numbers of its ranges, and so have their
+-- places.
 use Rattle.std.proofs.Common.{◌≡◌, ℕ, zero, suc, ◌+◌, ◌-◌, ◌<◌, List, [], ◌∷◌, length, map, Some, slice_get, refl, sym, ap, ◌∙◌, arith}
 use Rattle.std.specs.List.{range_with_len}
 use Rattle.std.proofs.lemmas.List.FromFn.{length-range_with_len}

@@ -5,7 +5,8 @@ use Rattle.std.proofs.Math.Seq.{drop-cons, take-suc-set}
 use Rattle.std.proofs.lemmas.List.{drop_all}
 use Rattle.lg_space.specs.Rectangle.{IsIn, volume_of, place_in}
 
--- the coordinates so far are right: any index of the axes behind them that stands at the rest completes the index
+-- the coordinates so far are right: any index of the axes behind them that stands at the rest
+-- completes the index
 pub record Unravels (rect : List (ℕ × ℕ)) (at : List ℕ) (k axis rest stride : ℕ) : Type 0 where
   pub stride_is : stride ≡ volume_of (drop axis rect)
   pub within : rest < stride

@@ -20,9 +20,19 @@ axes_again filler axes entries few filled =
     )
 
 pub point_again : (a : PointInside) → IsPoint a.axes a.at
-    → ◌≡◌ {A = PointInside} (record { axes = length (take a.axes a.at); at = padded 0 (take a.axes a.at) }) a
-point_again a h = λ i. record { axes = axes_again 0 a.axes a.at h.few h.filled i; at = sym h.filled i }
+    → ◌≡◌ {A = PointInside}
+    (record { axes = length (take a.axes a.at); at = padded 0 (take a.axes a.at) }) a
+point_again a h = λ i. record {
+  axes = axes_again 0 a.axes a.at h.few h.filled i;
+  at = sym h.filled i;
+}
 
 pub rect_again : (a : RectInside) → IsRect a.axes a.ranges
-    → ◌≡◌ {A = RectInside} (record { axes = length (take a.axes a.ranges); ranges = padded (0, 0) (take a.axes a.ranges) }) a
-rect_again a h = λ i. record { axes = axes_again (0, 0) a.axes a.ranges h.few h.filled i; ranges = sym h.filled i }
+    → ◌≡◌ {A = RectInside} (record {
+      axes = length (take a.axes a.ranges);
+      ranges = padded (0, 0) (take a.axes a.ranges);
+    }) a
+rect_again a h = λ i. record {
+  axes = axes_again (0, 0) a.axes a.ranges h.few h.filled i;
+  ranges = sym h.filled i;
+}

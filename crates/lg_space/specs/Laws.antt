@@ -8,14 +8,19 @@ VolumeCounts = (rect : List (ℕ × ℕ)) → length (indices rect) ≡ volume_o
 
 -- an index of the rectangle stands at its place in the list
 abbrev pub StandsAtPlace : Type 0
-StandsAtPlace = (rect : List (ℕ × ℕ)) (index : List ℕ) → IsIn rect index → slice_get (indices rect) (place_in rect index) ≡ Some index
+StandsAtPlace =
+    (rect : List (ℕ × ℕ)) (index : List ℕ) → IsIn rect index
+    → slice_get (indices rect) (place_in rect index) ≡ Some index
 
 -- what stands in the list is an index of the rectangle, and stands at its place alone
 abbrev pub StandsOnce : Type 0
-StandsOnce = (rect : List (ℕ × ℕ)) (k : ℕ) (index : List ℕ) → slice_get (indices rect) k ≡ Some index → IsIn rect index × (place_in rect index ≡ k)
+StandsOnce =
+    (rect : List (ℕ × ℕ)) (k : ℕ) (index : List ℕ) → slice_get (indices rect) k ≡ Some index
+    → IsIn rect index × (place_in rect index ≡ k)
 
 -- indices that differ on the last axis alone stand side by side, in the order of that coordinate
 abbrev pub SideBySide : Type 0
 SideBySide =
     (rect : List (ℕ × ℕ)) (last : ℕ × ℕ) (index : List ℕ) (k : ℕ) → length index ≡ length rect
-    → place_in (rect ++ last ∷ []) (index ++ k ∷ []) ≡ place_in (rect ++ last ∷ []) (index ++ last.0 ∷ []) + (k - last.0)
+    → place_in (rect ++ last ∷ []) (index ++ k ∷ [])
+    ≡ place_in (rect ++ last ∷ []) (index ++ last.0 ∷ []) + (k - last.0)

@@ -1,5 +1,5 @@
--- Which rectangles and points there are in a program. The limits are this project's own. The greatest
--- number of axes, `MAX_AXES`, is the constant of the code.
+-- Which rectangles and points there are in a program. The limits are this project's own. The
+-- greatest number of axes, `MAX_AXES`, is the constant of the code.
 use Rattle.std.specs.Prelude.{◌≡◌, ℕ, ◌≤◌, ◌^◌, ◌-◌, List, ◌++◌, length, take, replicate, All}
 use Rattle.lg_space.specs.Rectangle.{volume_of}
 use Rattle.lg_space.specs.declared.point.TheConstants.{MAX_AXES}

@@ -7,12 +7,15 @@ use crate::ranges;
 use crate::rect::AnyRect;
 use smallvec::SmallVec;
 
-/// Cuts a rectangle in two at a coordinate of an axis: what lies below it, and what lies from it on.
+/// Cuts a rectangle in two at a coordinate of an axis: what lies below it, and what lies from it
+/// on.
 pub fn split(rect: &AnyRect, axis: usize, at: u64) -> (AnyRect, AnyRect)
     requires { axis < length rect.now }
     ensures axes { (length result.0 ≡ length rect.now) × (length result.1 ≡ length rect.now) }
-    ensures below { (index : List ℕ) → IsIn result.0 index ↔ (IsIn rect.now index × (slice_index index axis < at)) }
-    ensures above { (index : List ℕ) → IsIn result.1 index ↔ (IsIn rect.now index × (at ≤ slice_index index axis)) }
+    ensures below { (index : List ℕ)
+        → IsIn result.0 index ↔ (IsIn rect.now index × (slice_index index axis < at)) }
+    ensures above { (index : List ℕ)
+        → IsIn result.1 index ↔ (IsIn rect.now index × (at ≤ slice_index index axis)) }
 {
     let axes = rect.axes();
     let (low, high) = rect.range(axis);

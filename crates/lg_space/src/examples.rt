@@ -1,5 +1,5 @@
-//! Worked examples of the limits. Each clause is computed by the check, so a definition or a constant
-//! that says another number is refused.
+//! Worked examples of the limits. Each clause is computed by the check, so a definition or a
+//! constant that says another number is refused.
 ghost use Rattle.std.specs.Prelude.{◌≡◌};
 ghost use Rattle.lg_space.specs.Stored.{MAX_END, MAX_VOLUME};
 

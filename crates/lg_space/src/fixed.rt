@@ -7,8 +7,8 @@ use crate::ranges;
 use crate::rect::AnyRect;
 use std::marker::Model;
 
-/// A rectangle of indices whose number of axes, from 0 to 4, is known when the code is compiled. Contracts see it as they
-/// see an [`AnyRect`]: as the list of its ranges.
+/// A rectangle of indices whose number of axes, from 0 to 4, is known when the code is compiled.
+/// Contracts see it as they see an [`AnyRect`]: as the list of its ranges.
 #[derive(Clone, Copy, Debug, PartialEq, Eq)]
 pub struct Rect<const D: usize> {
     ranges: [(u64, u64); 4],
@@ -57,7 +57,8 @@ impl<const D: usize> Rect<D> {
         AnyRect::new(self.ranges())
     }
 
-    /// The low and the high end of each axis. Here stands what is known of every rectangle with `D` axes.
+    /// The low and the high end of each axis. Here stands what is known of every rectangle with `D`
+    /// axes.
     pub fn ranges(&self) -> &[(u64, u64)]
         ensures value { result.now ≡ self.now }
         ensures axes { length self.now ≡ D }
@@ -90,9 +91,11 @@ impl<const D: usize> Rect<D> {
         ranges::contains(self.ranges(), p.coordinates())
     }
 
-    /// The indices that are in both rectangles. Where there is none, which empty rectangle is answered is not told.
+    /// The indices that are in both rectangles. Where there is none, which empty rectangle is
+    /// answered is not told.
     pub fn intersect(&self, other: &Rect<D>) -> Rect<D>
-        ensures { (index : List ℕ) → IsIn result index ↔ (IsIn self.now index × IsIn other.now index) }
+        ensures { (index : List ℕ)
+            → IsIn result index ↔ (IsIn self.now index × IsIn other.now index) }
     {
         Rect::from_any(&ranges::intersect(self.ranges(), other.ranges()))
     }

@@ -1,4 +1,5 @@
-//! What holds of the list of all indices of a rectangle, for any number of axes. Each law is a function's contract.
+//! What holds of the list of all indices of a rectangle, for any number of axes. Each law is a
+//! function's contract.
 
 ghost use Rattle.lg_space.specs.Laws.{VolumeCounts, StandsAtPlace, StandsOnce, SideBySide};
 
@@ -7,8 +8,8 @@ pub fn volume_counts()
     ensures { VolumeCounts }
 {}
 
-/// The place of an index is its place in the list of all indices in row-major order, and it stands at no other place.
-/// What stands in the list is an index of the rectangle.
+/// The place of an index is its place in the list of all indices in row-major order, and it stands
+/// at no other place. What stands in the list is an index of the rectangle.
 pub fn places_are_exact()
     ensures there { StandsAtPlace }
     ensures once { StandsOnce }

@@ -1,7 +1,8 @@
 //! Points and rectangles of indices, with up to four axes.
 //!
-//! Contracts see a point as the list of its coordinates, and a rectangle as the list of its ranges, one for each axis.
-//! The indices of a rectangle have an order, in which the last axis runs fastest, and so each has a place.
+//! Contracts see a point as the list of its coordinates, and a rectangle as the list of its ranges,
+//! one for each axis. The indices of a rectangle have an order, in which the last axis runs
+//! fastest, and so each has a place.
 #![tactic(auto)]
 
 mod cutting;

@@ -5,8 +5,8 @@ use std::marker::Model;
 /// The most axes that a point or a rectangle has.
 pub const MAX_AXES: usize = 4;
 
-/// An index of an array: a coordinate for each axis, from the first axis on. There are at most four axes. Contracts see
-/// the list of the coordinates.
+/// An index of an array: a coordinate for each axis, from the first axis on. There are at most four
+/// axes. Contracts see the list of the coordinates.
 #[derive(Clone, Copy, Debug, PartialEq, Eq)]
 pub struct Point {
     axes: u8,

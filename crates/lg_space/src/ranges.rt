@@ -18,7 +18,8 @@ pub fn kept(ranges: &[(u64, u64)]) -> [(u64, u64); 4]
     kept
 }
 
-/// How many indices there are. An empty range ends the product, since what comes behind it may be large.
+/// How many indices there are. An empty range ends the product, since what comes behind it may be
+/// large.
 pub fn volume(ranges: &[(u64, u64)]) -> u64
     requires { volume_of ranges.now ≤ MAX_VOLUME }
     ensures { result ≡ volume_of ranges.now }
@@ -59,7 +60,8 @@ pub fn intersect(first: &[(u64, u64)], second: &[(u64, u64)]) -> AnyRect
     requires first { IsStorable first.now }
     requires second { IsStorable second.now }
     ensures axes { length result ≡ length first.now }
-    ensures both { (index : List ℕ) → IsIn result index ↔ (IsIn first.now index × IsIn second.now index) }
+    ensures both { (index : List ℕ)
+        → IsIn result index ↔ (IsIn first.now index × IsIn second.now index) }
 {
     let mut ranges = [(0, 0); 4];
     for axis in 0..first.len() {
@@ -101,8 +103,8 @@ pub fn unravel(ranges: &[(u64, u64)], k: u64) -> Point
     Point::new(&at[..ranges.len()])
 }
 
-/// The index at the next place in row-major order, or none at the last place: the last coordinate that
-/// can goes up by one, and those behind it begin anew.
+/// The index at the next place in row-major order, or none at the last place: the last coordinate
+/// that can goes up by one, and those behind it begin anew.
 pub fn next(ranges: &[(u64, u64)], index: &[u64]) -> Option<Point>
     requires storable { IsStorable ranges.now }
     requires inside { IsIn ranges.now index.now }

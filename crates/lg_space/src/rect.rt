@@ -1,4 +1,4 @@
-ghost use Rattle.std.specs.Prelude.{◌≡◌, ℕ, ◌+◌, ◌<◌, ◌≤◌, ◌↔◌, List, length, slice_get, Some, IsTrue, All};
+ghost use Rattle.std.specs.Prelude.{◌≡◌, ℕ, ◌+◌, ◌<◌, ◌≤◌, ◌↔◌, List, length, slice_get, Some, IsTrue, IsSome, IfSome, All};
 ghost use Rattle.lg_space.specs.Rectangle.{IsIn, indices, place_in, volume_of};
 ghost use Rattle.lg_space.specs.Partition.{Partitions};
 ghost use Rattle.lg_space.specs.Stored.{IsStorable};
@@ -10,9 +10,10 @@ use smallvec::SmallVec;
 use std::alloc::Global;
 use std::marker::Model;
 
-/// A rectangle of indices with up to four axes: for each axis a range of coordinates, from its low end up to its high end,
-/// which is no longer in it. A rectangle without axes holds one index, the empty one. No end is above 2 ^ 24, and there are
-/// at most 2 ^ 48 indices. Contracts see the list of the ranges. The limits are this project's own.
+/// A rectangle of indices with up to four axes: for each axis a range of coordinates, from its low
+/// end up to its high end, which is no longer in it. A rectangle without axes holds one index, the
+/// empty one. No end is above 2 ^ 24, and there are at most 2 ^ 48 indices. Contracts see the list
+/// of the ranges. The limits are this project's own.
 #[derive(Clone, Copy, Debug, PartialEq, Eq)]
 pub struct AnyRect {
     axes: u8,
@@ -97,20 +98,24 @@ impl AnyRect {
         ranges::contains(self.ranges(), p.coordinates())
     }
 
-    /// The indices that are in both rectangles. Where there is none, which empty rectangle is answered is not told.
+    /// The indices that are in both rectangles. Where there is none, which empty rectangle is
+    /// answered is not told.
     pub fn intersect(&self, other: &AnyRect) -> AnyRect
         requires { length self.now ≡ length other.now }
         ensures axes { length result ≡ length self.now }
-        ensures both { (index : List ℕ) → IsIn result index ↔ (IsIn self.now index × IsIn other.now index) }
+        ensures both { (index : List ℕ)
+            → IsIn result index ↔ (IsIn self.now index × IsIn other.now index) }
     {
         ranges::intersect(self.ranges(), other.ranges())
     }
 
-    /// The indices that are not in the other rectangle, in at most eight parts that have no index in common. No part is
-    /// empty. It takes no memory: the parts lie in the value that is answered.
+    /// The indices that are not in the other rectangle, in at most eight parts that have no index
+    /// in common. No part is empty. It takes no memory: the parts lie in the value that is
+    /// answered.
     pub fn subtract(&self, alloc: Global, other: &AnyRect) -> SmallVec<AnyRect, 8>
         requires { length self.now ≡ length other.now }
-        ensures parts { Partitions result.items (λ index. IsIn self.now index × ¬ IsIn other.now index) }
+        ensures parts { Partitions result.items
+            (λ index. IsIn self.now index × ¬ IsIn other.now index) }
         ensures axes { All (λ part. length part ≡ length self.now) result.items }
         ensures filled { All (λ part. 0 < volume_of part) result.items }
         ensures few { length result.items ≤ 8 }
@@ -128,8 +133,8 @@ impl AnyRect {
         parts
     }
 
-    /// How many indices come before this one in row-major order, in which the last axis runs fastest (NumPy's reference,
-    /// "numpy.ravel_multi_index").
+    /// How many indices come before this one in row-major order, in which the last axis runs
+    /// fastest (NumPy's reference, "numpy.ravel_multi_index").
     #[tactic(auto, using(crate::proofs::Places::stands_at_place))]
     pub fn ravel(&self, p: &Point) -> u64
         requires { IsIn self.now p.now }
@@ -153,7 +158,10 @@ impl AnyRect {
     /// The index at the next place in row-major order, and none at the last place.
     pub fn next(&self, p: &Point) -> Option<Point>
         requires { IsIn self.now p.now }
-        ensures { result ≡ slice_get (indices self.now) (place_in self.now p.now + 1) }
+        ensures value { result ≡ slice_get (indices self.now) (place_in self.now p.now + 1) }
+        ensures inside { IfSome result
+            (λ q. IsIn self.now q × (place_in self.now q ≡ place_in self.now p.now + 1)) }
+        ensures last { IsSome result ↔ (place_in self.now p.now + 1 < volume_of self.now) }
     {
         ranges::next(self.ranges(), p.coordinates())
     }

@@ -1,5 +1,5 @@
-// Rectangles with each number of axes. The expected places are worked out by hand, from the order in which the last axis
-// runs fastest.
+// Rectangles with each number of axes. The expected places are worked out by hand, from the order
+// in which the last axis runs fastest.
 
 use crate::{AnyRect, Point, Rect};
 use smallvec::SmallVec;
