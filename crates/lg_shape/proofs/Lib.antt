@@ -2,3 +2,11 @@ pub mod Wholes
 pub mod Parts
 pub mod Tilings
 pub mod OneAxis
+pub mod Counting
+pub mod Promoting
+pub mod Cutting
+pub mod Stepping
+pub mod Deeper
+pub mod Picking
+pub mod Checking
+pub mod Broadcasts

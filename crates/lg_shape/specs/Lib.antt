@@ -1,5 +1,9 @@
 pub mod Shapes
 pub mod Views
+pub mod Steps
+pub mod Indexing
+pub mod IndexSteps
+pub mod Mismatch
 pub mod Tiling
 pub mod Stored
 pub mod Again
