@@ -1,15 +1,14 @@
 -- The shape to which two shapes broadcast, axis by axis from the last one on.
-use Rattle.std.proofs.Common.{◌≡◌, ◌≢◌, ℕ, zero, suc, ◌+◌, ◌-◌, ◌<◌, ◌≤◌, max, ◌⊎◌, Bool, true, false, eqb, List, [], ◌∷◌, length, reverse, get_or, set, take, Option, Some, None, slice_get, if◌then◌else◌, refl, sym, ap, subst, ◌∙◌, inl, inr, arith, length-take, below_more}
-use Rattle.std.specs.List.{All}
+use Rattle.std.proofs.Common.{◌≡◌, ◌≢◌, ℕ, zero, suc, ◌-◌, ◌<◌, ◌≤◌, max, ◌⊎◌, Bool, true, false, eqb, List, [], ◌∷◌, length, reverse, get_or, take, Option, Some, None, if◌then◌else◌, refl, sym, ap, subst, ◌∙◌, inl, inr, arith, length-take}
 use Rattle.std.specs.Option.{option_map, option_and_then}
 use Rattle.std.proofs.lemmas.Bool.{cases_lt}
 use Rattle.std.proofs.lemmas.Bool.Decides.{eqb_tells}
-use Rattle.std.proofs.lemmas.List.{length-reverse, reverse-reverse, get_or-reverse, get_or-take, get_or_past, get_or_default, get_or-set_other, get_or-set_same, length-set}
-use Rattle.std.proofs.lemmas.Option.{slice_get-get_or, slice_get_within, get_or_from_slice_get, same_Some}
-use Rattle.lg_space.specs.Stored.{MAX_END, MAX_AXES}
+use Rattle.std.proofs.lemmas.List.{length-reverse, reverse-reverse, get_or-reverse, get_or-take, get_or_past, get_or_default}
+use Rattle.std.proofs.lemmas.Option.{slice_get-get_or, get_or_from_slice_get, same_Some}
+use Rattle.lg_space.specs.Stored.{MAX_END}
 use Rattle.lg_shape.specs.Shapes.{joined_extent, joined_axes, joined_shape}
 use Rattle.lg_shape.specs.Stored.{IsShape}
-use Rattle.lg_shape.specs.Mismatch.{IsMismatch, IsFirstMismatch}
+use Rattle.lg_shape.specs.Mismatch.{IsFirstMismatch}
 
 -- ---- one axis
 

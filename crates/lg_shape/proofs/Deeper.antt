@@ -1,11 +1,11 @@
 -- Steps behind some axes on which nothing changes.
-use Rattle.std.proofs.Common.{◌≡◌, ℕ, zero, suc, ◌+◌, ◌-◌, ◌<◌, ◌≤◌, List, [], ◌∷◌, ◌++◌, length, map, get_or, set, ℤ, pos, negsuc, refl, sym, ap, subst, ◌∙◌, arith}
-use Rattle.std.specs.List.{insert, remove, flat_map}
+use Rattle.std.proofs.Common.{◌≡◌, ℕ, zero, suc, ◌≤◌, List, [], ◌∷◌, ◌++◌, map, pos, negsuc, refl, sym, ap, subst, ◌∙◌, arith}
+use Rattle.std.specs.List.{flat_map}
 use Rattle.std.proofs.lemmas.List.{map-append, map-id}
 use Rattle.lg_space.specs.Rectangle.{combinations, numbers_in}
 use Rattle.lg_space.specs.Stored.{MAX_END}
 use Rattle.lg_shape.specs.Shapes.{whole, places}
-use Rattle.lg_shape.specs.Views.{shape_after, index_before, IsStepOf, IsSliceOf}
+use Rattle.lg_shape.specs.Views.{shape_after, index_before, IsStepOf}
 use Rattle.lg_shape.specs.declared.step.Step.{Step}
 use Rattle.lg_shape.specs.declared.step.Step.TheVariants.{Promote, Project, Slice, Transpose, Delinearize}
 use Rattle.lg_shape.proofs.Stepping.{through, shapes_after, IsPlain, Small, Good}

@@ -1,5 +1,5 @@
 -- The steps of an index lead to the view that it picks.
-use Rattle.std.proofs.Common.{◌≡◌, ℕ, zero, suc, ◌+◌, ◌-◌, ◌*◌, ◌<◌, ◌≤◌, ◌⊎◌, min, Bool, true, false, List, [], ◌∷◌, ◌++◌, length, map, get_or, set, take, drop, Option, Some, None, ℤ, pos, negsuc, ltb, if◌then◌else◌, refl, sym, ap, subst, ◌∙◌, inl, inr, arith, append-nil, length-append, length-take, length-drop}
+use Rattle.std.proofs.Common.{◌≡◌, ℕ, zero, suc, ◌+◌, ◌-◌, ◌*◌, ◌<◌, ◌≤◌, Bool, true, false, List, [], ◌∷◌, ◌++◌, length, map, get_or, set, take, drop, Option, Some, None, ℤ, pos, negsuc, if◌then◌else◌, refl, sym, ap, subst, ◌∙◌, inl, inr, arith, append-nil, length-append, length-take, length-drop}
 use Rattle.std.specs.List.{flat_map, range_with_len, remove, All}
 use Rattle.std.proofs.lemmas.List.Elements.{All-nil, All-cons, All-head, All-tail}
 use Rattle.std.proofs.lemmas.Bool.{cases_lt}
@@ -9,11 +9,11 @@ use Rattle.std.proofs.lemmas.Simd.{map-map}
 use Rattle.std.proofs.lemmas.List.FromFn.{length-range_with_len}
 use Rattle.lg_space.specs.Rectangle.{combinations, numbers_in}
 use Rattle.lg_space.specs.Stored.{MAX_END, MAX_AXES}
-use Rattle.lg_shape.specs.Shapes.{size_of, whole, places, place_of}
+use Rattle.lg_shape.specs.Shapes.{whole, places, place_of}
 use Rattle.lg_shape.specs.Stored.{IsShape}
 use Rattle.lg_shape.specs.Steps.{AreStepsOf}
-use Rattle.lg_shape.specs.Views.{Layout, place_at, all_stepped, IsStepOf, IsSliceOf, shape_after}
-use Rattle.lg_shape.specs.Indexing.{coordinate, has_coordinate, bound, kept_range, is_plain, choices, new_shape, item_fault, named_axes, ellipses, missing_axes, indexed, Picks}
+use Rattle.lg_shape.specs.Views.{Layout, IsSliceOf, shape_after}
+use Rattle.lg_shape.specs.Indexing.{coordinate, has_coordinate, bound, kept_range, is_plain, choices, new_shape, item_fault, named_axes, ellipses, missing_axes, Picks}
 use Rattle.lg_shape.specs.IndexSteps.{cut_steps, promote_steps, integers, added_axes, taken_axes}
 use Rattle.lg_shape.specs.declared.step.Step.{Step}
 use Rattle.lg_shape.specs.declared.step.Step.TheVariants.{Promote, Project, Slice}
@@ -22,7 +22,7 @@ use Rattle.lg_shape.specs.declared.index.IndexItem.TheVariants.{At, Slice as Ran
 use Rattle.lg_shape.specs.declared.index.IndexFault.{IndexFault}
 use Rattle.lg_shape.specs.declared.index.IndexFault.TheVariants.{OutOfRange, Step as BadStep}
 use Rattle.lg_shape.proofs.Stepping.{through, shapes_after, Small, Good, all_stepped_is, through-append, shapes_after-append, good-append}
-use Rattle.lg_shape.proofs.Deeper.{deeper, behind, AllPlain, through-deeper, shapes-deeper, all_plain-deeper, good-deeper, product_mapped, shapes-behind, good-behind, places-behind}
+use Rattle.lg_shape.proofs.Deeper.{deeper, behind, AllPlain, through-deeper, shapes-deeper, good-deeper, product_mapped, shapes-behind, good-behind, places-behind}
 
 -- how many coordinates a slice keeps
 abbrev kept_count : ℕ → Option ℤ → Option ℤ → ℕ

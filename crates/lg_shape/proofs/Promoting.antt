@@ -1,5 +1,5 @@
 -- The steps for new axes, item by item.
-use Rattle.std.proofs.Common.{◌≡◌, ℕ, suc, ◌+◌, ◌≤◌, List, [], ◌∷◌, ◌++◌, length, drop, Option, ℤ, sym, ap, ◌∙◌, arith, add-one, append_assoc, length-append}
+use Rattle.std.proofs.Common.{◌≡◌, ℕ, ◌+◌, ◌≤◌, List, [], ◌∷◌, ◌++◌, length, drop, Option, ℤ, sym, ap, ◌∙◌, arith, add-one, append_assoc, length-append}
 use Rattle.lg_shape.specs.IndexSteps.{promote_steps, added_axes, taken_axes}
 use Rattle.lg_shape.specs.declared.step.Step.{Step}
 use Rattle.lg_shape.specs.declared.step.Step.TheVariants.{Promote}

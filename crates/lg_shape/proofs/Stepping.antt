@@ -1,17 +1,15 @@
 -- Several steps at once: by which index of the first view an index of the last one reads.
-use Rattle.std.proofs.Common.{◌≡◌, ℕ, zero, suc, ◌+◌, ◌-◌, ◌*◌, ◌<◌, ◌≤◌, ◌⊎◌, List, [], ◌∷◌, ◌++◌, length, map, get_or, set, take, drop, Some, ℤ, pos, negsuc, slice_get, refl, sym, ap, subst, ◌∙◌, inl, inr, arith}
+use Rattle.std.proofs.Common.{◌≡◌, ℕ, zero, suc, ◌+◌, ◌-◌, ◌*◌, ◌<◌, ◌≤◌, ◌⊎◌, List, [], ◌∷◌, ◌++◌, length, map, get_or, set, Some, pos, negsuc, slice_get, refl, sym, ap, ◌∙◌, inl, inr, arith}
 use Rattle.std.specs.List.{insert, remove}
 use Rattle.std.proofs.lemmas.List.{length-map, ext_get_or}
 use Rattle.std.proofs.lemmas.Nat.{mul-le}
-use Rattle.std.proofs.lemmas.Option.{slice_get-map, slice_get-get_or, get_or_from_slice_get, slice_get_within}
+use Rattle.std.proofs.lemmas.Option.{slice_get-map, slice_get-get_or, get_or_from_slice_get}
 use Rattle.std.specs.Option.{option_map}
-use Rattle.lg_space.specs.Rectangle.{IsIn, indices}
-use Rattle.lg_space.specs.Stored.{MAX_END, MAX_AXES}
+use Rattle.lg_space.specs.Rectangle.{IsIn}
+use Rattle.lg_space.specs.Stored.{MAX_END}
 use Rattle.lg_space.proofs.Places.{stands_at_place, stands_once, volume_counts}
 use Rattle.lg_shape.specs.Shapes.{size_of, whole, places, place_of}
-use Rattle.lg_shape.specs.Stored.{IsShape}
-use Rattle.lg_shape.specs.Steps.{AreStepsOf}
-use Rattle.lg_shape.specs.Views.{Layout, place_at, shape_after, index_before, stepped, all_stepped, IsStepOf}
+use Rattle.lg_shape.specs.Views.{shape_after, index_before, all_stepped, IsStepOf}
 use Rattle.lg_shape.specs.declared.step.Step.{Step}
 use Rattle.lg_shape.specs.declared.step.Step.TheVariants.{Promote, Project, Slice, Transpose, Delinearize}
 

@@ -1,6 +1,7 @@
 -- The steps of an index, from left to right: first those for integers and slices, and then, on the
 -- axes that are left, those for new axes. So no shape on the way has more axes than the first or
--- the last one.
+-- the last one. Only functions that no other crate calls speak of them: what the steps lead to is
+-- said by `Picks`.
 use Rattle.std.specs.Prelude.{ℕ, suc, ◌+◌, ◌-◌, List, [], ◌∷◌, drop, ℤ, pos, negsuc, ◌+ℤ◌}
 use Rattle.lg_shape.specs.Indexing.{coordinate, kept_range}
 use Rattle.lg_shape.specs.declared.step.Step.{Step}

@@ -1,8 +1,8 @@
-use Rattle.std.proofs.Common.{ℕ, ◌+◌, ◌-◌, ◌++◌, [], ◌∷◌, List, pos, get_or, sym, subst, ap, ◌∙◌, rules}
+use Rattle.std.proofs.Common.{◌++◌, [], ◌∷◌, pos, sym, ap, ◌∙◌, rules}
 use mir.Val.{SFits}
 use mir.Syntax.{w128}
 use Rattle.std.proofs.lemmas.Int.{to_z-of_z}
-use Rattle.lg_shape.specs.Indexing.{item_fault, coordinate}
+use Rattle.lg_shape.specs.Indexing.{item_fault}
 use Rattle.lg_shape.specs.IndexSteps.{cut_steps}
 use Rattle.lg_shape.specs.declared.step.Step.TheVariants.{Project, Slice}
 use Rattle.lg_shape.proofs.Counting.{front_item}

@@ -1,4 +1,4 @@
-use Rattle.std.proofs.Common.{ℕ, ◌+◌, ◌++◌, List, sym, subst, ◌∙◌}
+use Rattle.std.proofs.Common.{ℕ, ◌+◌, ◌++◌, List, sym, subst}
 use Rattle.smallvec.specs.SmallVec.{SmallVec}
 use Rattle.lg_shape.specs.IndexSteps.{promote_steps}
 use Rattle.lg_shape.specs.declared.step.Step.{Step}

@@ -1,6 +1,6 @@
-use Rattle.std.proofs.Common.{◌≡◌, ◌⊎◌, ℕ, ◌<◌, List, Some, None, length, reverse, get_or, take, max, sym, ap, subst, ◌∙◌}
-use Rattle.lg_shape.specs.Shapes.{joined_extent, joined_shape}
-use Rattle.lg_shape.proofs.Broadcasts.{Joined, joins_stop, joins_all}
+use Rattle.std.proofs.Common.{◌≡◌, ◌⊎◌, ℕ, ◌<◌, List, Some, length, reverse, get_or, sym, ap, subst, ◌∙◌}
+use Rattle.lg_shape.specs.Shapes.{joined_extent}
+use Rattle.lg_shape.proofs.Broadcasts.{joins_stop, joins_all}
 use Rattle.lg_shape.proofs.joining.broadcast.Goals as goal
 
 pub returns-in_default-clause-shape : goal.returns-in_default-clause-shape

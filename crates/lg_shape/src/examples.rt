@@ -1,0 +1,34 @@
+//! Worked examples of the definitions. Each clause is computed by the check, so a definition that
+//! says something else is refused. The values are NumPy's.
+ghost use Rattle.std.specs.Prelude.{◌≡◌, [], ◌∷◌, pos, negsuc, Some, None};
+ghost use Rattle.lg_shape.specs.Indexing.{indexed, index_fault};
+ghost use Rattle.lg_shape.specs.Views.{whole_layout};
+ghost use Rattle.lg_shape.specs.declared.index.IndexItem.TheVariants.{At, Slice, NewAxis, Ellipsis};
+ghost use Rattle.lg_shape.specs.declared.index.IndexFault.TheVariants.{TwoEllipses, TooMany, OutOfRange, Step, TooManyAxes};
+
+/// What an index picks of a whole root, whose places are counted in row-major order.
+pub fn indices_by_example()
+    ensures element { indexed (whole_layout (3 ∷ [])) (At (negsuc 0) ∷ [])
+        ≡ record { shape = []; places = 2 ∷ [] } }
+    ensures block { indexed (whole_layout (4 ∷ 4 ∷ []))
+        (Slice (Some (pos 1)) (Some (pos 3)) None ∷ Slice None (Some (negsuc 1)) None ∷ [])
+        ≡ record { shape = 2 ∷ 2 ∷ []; places = 4 ∷ 5 ∷ 8 ∷ 9 ∷ [] } }
+    ensures column { indexed (whole_layout (2 ∷ 3 ∷ [])) (Ellipsis ∷ At (pos 1) ∷ [])
+        ≡ record { shape = 2 ∷ []; places = 1 ∷ 4 ∷ [] } }
+    ensures added { indexed (whole_layout (2 ∷ 3 ∷ [])) (At (pos 1) ∷ NewAxis ∷ [])
+        ≡ record { shape = 1 ∷ 3 ∷ []; places = 3 ∷ 4 ∷ 5 ∷ [] } }
+    ensures none { indexed (whole_layout (4 ∷ []))
+        (Slice (Some (pos 10)) (Some (negsuc 9)) None ∷ []) ≡ record { shape = 0 ∷ []; places = [] } }
+{}
+
+/// The first fault of an index.
+pub fn faults_by_example()
+    ensures fine { index_fault (2 ∷ 2 ∷ 2 ∷ 2 ∷ []) (NewAxis ∷ At (negsuc 1) ∷ []) ≡ None }
+    ensures axes { index_fault (2 ∷ 2 ∷ 2 ∷ 2 ∷ []) (NewAxis ∷ []) ≡ Some TooManyAxes }
+    ensures ellipses { index_fault [] (Ellipsis ∷ At (pos 0) ∷ Ellipsis ∷ []) ≡ Some TwoEllipses }
+    ensures many { index_fault (3 ∷ []) (At (pos 7) ∷ At (pos 0) ∷ []) ≡ Some TooMany }
+    ensures range { index_fault (3 ∷ 4 ∷ []) (NewAxis ∷ At (pos 3) ∷ At (pos 9) ∷ [])
+        ≡ Some (OutOfRange 1) }
+    ensures step { index_fault (3 ∷ []) (Ellipsis ∷ Slice None None (Some (pos 2)) ∷ [])
+        ≡ Some (Step 1) }
+{}
