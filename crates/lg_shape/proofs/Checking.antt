@@ -2,7 +2,7 @@
 use Rattle.std.proofs.Common.{◌≡◌, ℕ, ◌+◌, ◌-◌, ◌<◌, ◌≤◌, Bool, true, false, List, [], ◌++◌, length, nat_lt, if◌then◌else◌, Option, Some, None, refl, sym, ap, subst, ◌∙◌, arith, length-append}
 use Rattle.std.specs.Option.{option_or}
 use Rattle.std.proofs.lemmas.Bool.Decides.{nat_tests}
-use Rattle.lg_space.specs.Stored.{MAX_AXES}
+use Rattle.lg_space.specs.declared.point.TheConstants.{MAX_AXES}
 use Rattle.lg_shape.specs.Stored.{IsShape}
 use Rattle.lg_shape.specs.Steps.{AreStepsOf}
 use Rattle.lg_shape.specs.Indexing.{new_shape, item_fault, named_axes, ellipses, missing_axes, index_fault, Picks}

@@ -8,7 +8,8 @@ use Rattle.std.proofs.lemmas.List.{map-id, take-append-drop}
 use Rattle.std.proofs.lemmas.Simd.{map-map}
 use Rattle.std.proofs.lemmas.List.FromFn.{length-range_with_len}
 use Rattle.lg_space.specs.Rectangle.{combinations, numbers_in}
-use Rattle.lg_space.specs.Stored.{MAX_END, MAX_AXES}
+use Rattle.lg_space.specs.declared.point.TheConstants.{MAX_AXES}
+use Rattle.lg_space.specs.Stored.{MAX_END}
 use Rattle.lg_shape.specs.Shapes.{whole, places, place_of}
 use Rattle.lg_shape.specs.Stored.{IsShape}
 use Rattle.lg_shape.specs.Steps.{AreStepsOf}

@@ -5,7 +5,7 @@ use Rattle.std.specs.Prelude.{◌≡◌, ℕ, suc, ◌-◌, min, Bool, true, nat
 use Rattle.std.specs.Option.{option_or}
 use Rattle.std.specs.Ordering.{int_eq}
 use Rattle.lg_space.specs.Rectangle.{combinations, numbers_in}
-use Rattle.lg_space.specs.Stored.{MAX_AXES}
+use Rattle.lg_space.specs.declared.point.TheConstants.{MAX_AXES}
 use Rattle.lg_shape.specs.Shapes.{size_of, whole}
 use Rattle.lg_shape.specs.Views.{Layout, place_at, all_stepped}
 use Rattle.lg_shape.specs.declared.step.Step.{Step}
