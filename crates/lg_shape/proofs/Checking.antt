@@ -5,13 +5,13 @@ use Rattle.std.proofs.lemmas.Bool.Decides.{nat_tests}
 use Rattle.lg_space.specs.declared.point.TheConstants.{MAX_AXES}
 use Rattle.lg_shape.specs.Stored.{IsShape}
 use Rattle.lg_shape.specs.Steps.{AreStepsOf}
-use Rattle.lg_shape.specs.Indexing.{new_shape, item_fault, named_axes, ellipses, missing_axes, index_fault, Picks}
+use Rattle.lg_shape.specs.Indexing.{new_shape, item_fault, named_axes, ellipses, missing_axes, indexed_shape, index_fault, Picks}
 use Rattle.lg_shape.specs.IndexSteps.{cut_steps, promote_steps, integers, added_axes, taken_axes}
 use Rattle.lg_shape.specs.declared.step.Step.{Step}
 use Rattle.lg_shape.specs.declared.index.IndexItem.{IndexItem}
 use Rattle.lg_shape.specs.declared.index.IndexFault.{IndexFault}
 use Rattle.lg_shape.specs.declared.index.IndexFault.TheVariants.{TwoEllipses, TooMany, TooManyAxes}
-use Rattle.lg_shape.proofs.Picking.{length-cuts, length-promotes, length-new_shape, integers-most, taken_most, index_allowed, index_picks}
+use Rattle.lg_shape.proofs.Picking.{length-cuts, length-promotes, length-new_shape, integers-most, taken_most, index_allowed, index_limits, index_picks}
 
 -- there is one `...` at most, and no more integers and slices than axes
 pub record Checked (shape : List ℕ) (items : List IndexItem) (missing : ℕ) : Type 0 where
@@ -61,6 +61,7 @@ module _ (shape : List ℕ) (items : List IndexItem) (missing : ℕ) (h : Checke
     pub axes_small : taken_axes missing items + added_axes items ≤ 8
     pub room : length (cut_steps 0 missing shape items) + added_axes items ≤ 8
     pub allowed : AreStepsOf (cut_steps 0 missing shape items ++ promote_steps 0 missing items) shape
+    pub within : IsShape (indexed_shape shape items)
     pub picks : Picks shape items (cut_steps 0 missing shape items ++ promote_steps 0 missing items)
     pub count : length (cut_steps 0 missing shape items ++ promote_steps 0 missing items) ≤ 8
 
@@ -75,6 +76,7 @@ module _ (shape : List ℕ) (items : List IndexItem) (missing : ℕ) (h : Checke
         no_fault = last_fault none ∙ passed _ (Some TooManyAxes) None (not_below MAX_AXES (length (new_shape missing shape items)) small);
         axes_small = omega (arith, checked_taken, h.named, h.limits.axes);
         room = room;
+        within = subst (λ n. IsShape (new_shape n shape items)) h.missing_is (index_limits shape items h.limits missing h.missing_is checked_taken none small);
         allowed = index_allowed shape items h.limits missing h.missing_is checked_taken none small;
         picks = index_picks shape items h.limits missing h.missing_is checked_taken none small;
         count = omega (arith, length-append cuts promotes, length-promotes 0 missing items);
@@ -94,6 +96,7 @@ checked_by shape extents items ints slices dots same limits named dotted one eno
 -- what holds at the end, of the steps in the order in which they were added
 pub record Done (shape extents : List ℕ) (items : List IndexItem) (missing : ℕ) : Type 0 where
   pub no_fault : None ≡ index_fault shape items
+  pub within : IsShape (indexed_shape shape items)
   pub axes_small : taken_axes missing items + added_axes items ≤ 8
   pub room : (steps : List Step) (capacity : ℕ) → steps ≡ [] ++ cut_steps 0 missing extents items → capacity ≡ 8 → length steps + added_axes items ≤ capacity
   pub allowed : (steps : List Step) → steps ≡ ([] ++ cut_steps 0 missing extents items) ++ promote_steps 0 missing items → AreStepsOf steps shape
@@ -107,6 +110,7 @@ done_by shape extents items missing ints news same h counted added few none =
     let fine = checked_fine extents items missing h (omega (arith, counted, added)) (sym none) in
     record {
       no_fault = sym fine.no_fault ∙ ap (λ s. index_fault s items) same;
+      within = subst (λ s. IsShape (indexed_shape s items)) same fine.within;
       axes_small = fine.axes_small;
       room = λ steps capacity e size. omega (arith, fine.room, ap length e, size);
       allowed = λ steps e. subst (AreStepsOf steps) same (subst (λ l. AreStepsOf l extents) (sym e) fine.allowed);

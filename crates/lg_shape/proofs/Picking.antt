@@ -498,6 +498,11 @@ module _ (shape : List ℕ) (items : List IndexItem) (limits : IsShape shape) (m
   pub index_allowed : AreStepsOf (cut_steps 0 missing shape items ++ promote_steps 0 missing items) shape
   index_allowed = steps_of (cut_steps 0 missing shape items ++ promote_steps 0 missing items) shape good
 
+  pub index_limits : IsShape (new_shape missing shape items)
+  index_limits =
+      let new = new_shape missing shape items in
+      record { axes = few; extents = all_of MAX_AXES new (small_of MAX_AXES new few (ends_new missing shape items ends)) }
+
   -- the shape of the last view
   final : shapes_after (cut_steps 0 missing shape items ++ promote_steps 0 missing items) shape ≡ new_shape missing shape items
   final =

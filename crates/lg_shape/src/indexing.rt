@@ -4,7 +4,7 @@ ghost use Rattle.smallvec.specs.SmallVec.{small_vec_len};
 ghost use Rattle.lg_space.specs.Stored.{MAX_END};
 ghost use Rattle.lg_shape.specs.Steps.{AreStepsOf};
 ghost use Rattle.lg_shape.specs.Stored.{IsShape};
-ghost use Rattle.lg_shape.specs.Indexing.{has_coordinate, coordinate, bound, is_plain, named_axes, ellipses, item_fault, index_fault, Picks};
+ghost use Rattle.lg_shape.specs.Indexing.{has_coordinate, coordinate, bound, is_plain, named_axes, ellipses, item_fault, indexed_shape, index_fault, Picks};
 ghost use Rattle.lg_shape.specs.IndexSteps.{cut_steps, promote_steps, integers, added_axes, taken_axes, counted_from_start};
 
 use crate::index::{IndexFault, IndexItem};
@@ -33,6 +33,7 @@ pub fn apply_index(
     ensures inline { IfOk result (λ steps. steps.capacity ≡ 8) }
     ensures allowed { IfOk result (λ steps. AreStepsOf steps.items shape.now) }
     ensures picks { IfOk result (λ steps. Picks shape.now items.now steps.items) }
+    ensures limits { OnOk result (IsShape (indexed_shape shape.now items.now)) }
 {
     let extents = shape.extents();
     let counts = counts_of(items);

@@ -102,3 +102,15 @@ returns-clause-picks c =
     let done = done_by c.args.shape.now extents items missing result.integers result.new_axes same checked counted.integers counted.new_axes c.if-extents-counts-gt-MAX_AXES.false c.in_ok-add_cuts.ensures.fault in
     done.picks c.add_promotes.new.steps.items (c.add_promotes.ensures.steps ∙ ap (λ l. l ++ promote_steps 0 missing items)
     (c.in_ok-add_cuts.ensures.steps ∙ ap (λ l. l ++ cut_steps 0 missing extents items) c.new-steps.ensures.items))
+
+pub returns-clause-limits : goal.returns-clause-limits
+returns-clause-limits c =
+    let extents = c.extents-extents.result.now in
+    let items = c.args.items.now in
+    let counted = c.counts_of-counts.ensures in
+    let result = c.counts_of-counts.result in
+    let same = c.extents-extents.ensures.value in
+    let checked = checked_by c.args.shape.now extents items result.integers result.slices result.ellipses same c.extents-extents.ensures.shape counted.named counted.ellipses c.if-counts-gt1.false c.if-named-extents.false in
+    let missing = length extents - (result.integers + result.slices) in
+    let done = done_by c.args.shape.now extents items missing result.integers result.new_axes same checked counted.integers counted.new_axes c.if-extents-counts-gt-MAX_AXES.false c.in_ok-add_cuts.ensures.fault in
+    done.within
