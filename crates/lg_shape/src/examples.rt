@@ -2,7 +2,8 @@
 //! says something else is refused. The values are NumPy's.
 ghost use Rattle.std.specs.Prelude.{◌≡◌, [], ◌∷◌, pos, negsuc, Some, None};
 ghost use Rattle.lg_shape.specs.Indexing.{indexed, index_fault};
-ghost use Rattle.lg_shape.specs.Views.{whole_layout};
+ghost use Rattle.lg_shape.specs.Views.{whole_layout, stepped, all_stepped};
+ghost use Rattle.lg_shape.specs.declared.step.Step.TheVariants.{Promote, Project, Slice as Cut, Transpose, Delinearize};
 ghost use Rattle.lg_shape.specs.declared.index.IndexItem.TheVariants.{At, Slice, NewAxis, Ellipsis};
 ghost use Rattle.lg_shape.specs.declared.index.IndexFault.TheVariants.{TwoEllipses, TooMany, OutOfRange, Step, TooManyAxes};
 
@@ -19,6 +20,28 @@ pub fn indices_by_example()
         ≡ record { shape = 1 ∷ 3 ∷ []; places = 3 ∷ 4 ∷ 5 ∷ [] } }
     ensures none { indexed (whole_layout (4 ∷ []))
         (Slice (Some (pos 10)) (Some (negsuc 9)) None ∷ []) ≡ record { shape = 0 ∷ []; places = [] } }
+{}
+
+/// What each kind of step makes of a whole root, and steps in a row.
+pub fn steps_by_example()
+    ensures promoted { stepped (Promote 1 2) (whole_layout (3 ∷ []))
+        ≡ record { shape = 3 ∷ 2 ∷ []; places = 0 ∷ 0 ∷ 1 ∷ 1 ∷ 2 ∷ 2 ∷ [] } }
+    ensures projected { stepped (Project 0 1) (whole_layout (2 ∷ 3 ∷ []))
+        ≡ record { shape = 3 ∷ []; places = 3 ∷ 4 ∷ 5 ∷ [] } }
+    ensures sliced { stepped (Cut 1 1 2 (pos 1)) (whole_layout (2 ∷ 3 ∷ []))
+        ≡ record { shape = 2 ∷ 2 ∷ []; places = 1 ∷ 2 ∷ 4 ∷ 5 ∷ [] } }
+    ensures spread { stepped (Cut 0 1 2 (pos 3)) (whole_layout (6 ∷ []))
+        ≡ record { shape = 2 ∷ []; places = 1 ∷ 4 ∷ [] } }
+    ensures reversed { stepped (Cut 0 3 2 (negsuc 1)) (whole_layout (4 ∷ []))
+        ≡ record { shape = 2 ∷ []; places = 3 ∷ 1 ∷ [] } }
+    ensures transposed { stepped (Transpose (1 ∷ 0 ∷ 0 ∷ 0 ∷ [])) (whole_layout (2 ∷ 3 ∷ []))
+        ≡ record { shape = 3 ∷ 2 ∷ []; places = 0 ∷ 3 ∷ 1 ∷ 4 ∷ 2 ∷ 5 ∷ [] } }
+    ensures turned { stepped (Transpose (2 ∷ 0 ∷ 1 ∷ 0 ∷ [])) (whole_layout (1 ∷ 2 ∷ 3 ∷ []))
+        ≡ record { shape = 3 ∷ 1 ∷ 2 ∷ []; places = 0 ∷ 3 ∷ 1 ∷ 4 ∷ 2 ∷ 5 ∷ [] } }
+    ensures split { stepped (Delinearize (2 ∷ 3 ∷ [])) (whole_layout (6 ∷ []))
+        ≡ record { shape = 2 ∷ 3 ∷ []; places = 0 ∷ 1 ∷ 2 ∷ 3 ∷ 4 ∷ 5 ∷ [] } }
+    ensures in_a_row { all_stepped (Cut 0 1 2 (pos 1) ∷ Project 1 2 ∷ Promote 0 1 ∷ [])
+        (whole_layout (3 ∷ 3 ∷ [])) ≡ record { shape = 1 ∷ 2 ∷ []; places = 5 ∷ 8 ∷ [] } }
 {}
 
 /// The first fault of an index.

@@ -10,7 +10,7 @@ mod joining;
 mod shape;
 mod step;
 
-pub use examples::{faults_by_example, indices_by_example};
+pub use examples::{faults_by_example, indices_by_example, steps_by_example};
 pub use index::{IndexFault, IndexItem};
 pub use indexing::apply_index;
 pub use joining::{Mismatch, broadcast};
