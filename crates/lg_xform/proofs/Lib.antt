@@ -1,0 +1,15 @@
+pub mod Insides
+pub mod Orders
+pub mod Befores
+pub mod Sums
+pub mod Held
+pub mod Maps
+pub mod Edits
+pub mod Slicing
+pub mod Wholes
+pub mod Splits
+pub mod Holes
+pub mod Dense
+pub mod Points
+pub mod Corners
+pub mod Linear

@@ -1,0 +1,9 @@
+pub mod Moves
+pub mod Slices
+pub mod Chains
+pub mod Corners
+pub mod Footprints
+pub mod Copies
+pub mod Laws
+pub use Rattle.lg_shape.specs.Shapes
+pub use Rattle.lg_shape.specs.Views
