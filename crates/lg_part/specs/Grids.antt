@@ -14,7 +14,7 @@ axes_of (extent ∷ shape) (size ∷ sizes) (numbers ∷ colors) =
 axes_of shape sizes colors = []
 
 -- an axis of this extent is cut into so many parts of this size, which is at least 1 and, where the
--- extent is not 0, at most the extent. There is at least one part, and no part begins behind the end
+-- extent is not 0, at most the extent. There is at least one part, and none begins behind the end
 pub record IsCutAxis (extent size : ℕ) (numbers : ℕ × ℕ) : Type 0 where
   pub from_0 : numbers.0 ≡ 0
   pub some : 1 ≤ numbers.1
