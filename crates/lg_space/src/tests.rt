@@ -1,7 +1,7 @@
 // Rectangles with each number of axes. The expected places are worked out by hand, from the order
 // in which the last axis runs fastest.
 
-use crate::{AnyRect, Point, Rect};
+use crate::{AnyRect, Point, Rect, examples, laws};
 use smallvec::SmallVec;
 use std::process::Abort;
 use std::test::Fail;
@@ -31,6 +31,8 @@ fn two_axes(rt: HostRuntime) -> Result<(), Fail> {
     stands_at(&rt, &rect, &Point::new(&[2, 3]), 4);
     assert_eq!(rt; rect.volume(), 6);
     assert_eq!(rt; rect.range(1), (2, 5));
+    assert_eq!(rt; rect.axes(), 2);
+    assert!(rt; rect.ranges() == [(1, 3), (2, 5)].as_slice());
     Ok(())
 }
 
@@ -43,9 +45,11 @@ fn two_axes_known_in_advance(rt: HostRuntime) -> Result<(), Fail> {
     assert!(rt; rect.unravel(4) == index);
     assert_eq!(rt; rect.volume(), 6);
     assert_eq!(rt; rect.range(0), (1, 3));
+    assert!(rt; rect.ranges() == [(1, 3), (2, 5)].as_slice());
     assert!(rt; rect.intersect(&Rect::new(&[(0, 2), (4, 9)])) == Rect::new(&[(1, 2), (4, 5)]));
     assert!(rt; rect.to_any() == AnyRect::new(&[(1, 3), (2, 5)]));
     assert!(rt; Rect::from_any(&rect.to_any()) == rect);
+    assert_eq!(rt; Rect::<0>::new(&[]).volume(), 1);
     Ok(())
 }
 
@@ -115,6 +119,16 @@ fn what_is_left(rt: HostRuntime) -> Result<(), Fail> {
 #[test]
 fn no_axes_by_default(rt: HostRuntime) -> Result<(), Fail> {
     assert!(rt; AnyRect::default() == AnyRect::new(&[]));
+    Ok(())
+}
+
+// The laws have no body; that they can be called is all that there is to try.
+#[test]
+fn laws_and_limits(_rt: HostRuntime) -> Result<(), Fail> {
+    laws::volume_counts();
+    laws::places_are_exact();
+    laws::rows_are_contiguous();
+    examples::limits_by_example();
     Ok(())
 }
 
