@@ -8,7 +8,8 @@ use Rattle.std.proofs.lemmas.Nat.{mul-le}
 use Rattle.std.proofs.lemmas.List.{get_or-take, get_or-map, get_or_default, get_or_past, length-map, length-take, length-set, map-set, set-get_or, ext_get_or}
 use Rattle.std.proofs.lemmas.List.Edits.{length-insert, length-remove}
 use Rattle.lg_space.specs.Rectangle.{IsIn}
-use Rattle.lg_space.specs.Stored.{MAX_AXES, MAX_END}
+use Rattle.lg_space.specs.declared.point.TheConstants.{MAX_AXES}
+use Rattle.lg_space.specs.Stored.{MAX_END}
 use Rattle.lg_shape.specs.Shapes.{whole, size_of}
 use Rattle.lg_shape.specs.Stored.{IsShape}
 use Rattle.lg_shape.specs.Views.{shape_after, sliced_at, put_at}

@@ -6,7 +6,7 @@ use Rattle.std.proofs.lemmas.Bool.{cases_lt}
 use Rattle.std.proofs.lemmas.List.{get_or_past, length-take, get_or-take}
 use Rattle.std.proofs.lemmas.List.Elements.{All-cons, All-get_or, All-from_get_or, All-append, All-take, All-drop, All-set, All-map}
 use Rattle.lg_space.specs.Rectangle.{IsIn, volume_of}
-use Rattle.lg_space.specs.Stored.{MAX_AXES}
+use Rattle.lg_space.specs.declared.point.TheConstants.{MAX_AXES}
 use Rattle.lg_space.proofs.Places.{place-below}
 use Rattle.lg_shape.specs.Shapes.{whole, size_of}
 use Rattle.lg_shape.specs.Stored.{IsShape}

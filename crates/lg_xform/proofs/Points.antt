@@ -2,7 +2,8 @@
 use Rattle.std.proofs.Common.{◌≡◌, ℕ, ◌+◌, ◌*◌, ◌<◌, ◌≤◌, List, [], ◌∷◌, length, map, get_or, set, drop, Some, slice_get, sym, ap, ◌∙◌, arith}
 use Rattle.std.proofs.lemmas.List.{drop_more, drop_all, get_or-take}
 use Rattle.lg_space.specs.Rectangle.{IsIn}
-use Rattle.lg_space.specs.Stored.{MAX_AXES, MAX_END}
+use Rattle.lg_space.specs.declared.point.TheConstants.{MAX_AXES}
+use Rattle.lg_space.specs.Stored.{MAX_END}
 use Rattle.lg_shape.specs.Shapes.{whole, places, place_of}
 use Rattle.lg_xform.specs.declared.chain.Chain.{Chain}
 use Rattle.lg_xform.specs.Moves.{steps, add_at, moved, IsHeld}

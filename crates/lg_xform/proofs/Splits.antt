@@ -8,7 +8,7 @@ use Rattle.std.proofs.lemmas.List.{take_more_set, take_more, take_all, take_rest
 use Rattle.std.proofs.lemmas.List.Elements.{All-nil, All-cons}
 use Rattle.std.proofs.lemmas.List.FromFn.{get_or-range_with_len}
 use Rattle.lg_space.specs.Rectangle.{IsIn}
-use Rattle.lg_space.specs.Stored.{MAX_AXES}
+use Rattle.lg_space.specs.declared.point.TheConstants.{MAX_AXES}
 use Rattle.lg_space.proofs.Places.{place-below}
 use Rattle.lg_shape.specs.Shapes.{whole, places, place_of, size_of}
 use Rattle.lg_shape.specs.Stored.{IsShape}

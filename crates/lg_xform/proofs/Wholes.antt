@@ -6,7 +6,7 @@ use Rattle.std.proofs.lemmas.Option.{slice_get-get_or}
 use Rattle.std.proofs.lemmas.List.Elements.{All-nil, All-cons}
 use Rattle.std.proofs.lemmas.List.FromFn.{get_or-range_with_len, length-range_with_len}
 use Rattle.lg_space.specs.Rectangle.{IsIn}
-use Rattle.lg_space.specs.Stored.{MAX_AXES}
+use Rattle.lg_space.specs.declared.point.TheConstants.{MAX_AXES}
 use Rattle.lg_space.proofs.Places.{volume_counts, stands_once}
 use Rattle.lg_shape.specs.Shapes.{whole, places, place_of, size_of}
 use Rattle.lg_shape.specs.Stored.{IsShape}

@@ -2,7 +2,7 @@
 -- NumPy's reference, "Internal memory layout of an ndarray", with a stride for each axis, but the
 -- strides count coordinates of the root and not bytes, and none is negative.
 use Rattle.std.specs.Prelude.{ℕ, zero, suc, ◌+◌, ◌-◌, ◌*◌, ◌<◌, ◌≤◌, Bool, true, false, List, [], ◌∷◌, map, All, slice_index_or}
-use Rattle.lg_space.specs.Stored.{MAX_AXES}
+use Rattle.lg_space.specs.declared.point.TheConstants.{MAX_AXES}
 use Rattle.lg_shape.specs.Shapes.{size_of}
 use Rattle.lg_xform.specs.declared.axis.ViewAxis.{ViewAxis}
 

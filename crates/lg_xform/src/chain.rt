@@ -1,5 +1,5 @@
 ghost use Rattle.std.specs.Prelude.{◌≡◌, ◌≤◌, ◌<◌, ◌-◌, ◌++◌, ℕ, List, length, map, take, replicate, false, slice_get, Some};
-ghost use Rattle.lg_space.specs.Stored.{MAX_AXES};
+ghost use Rattle.lg_space.specs.declared.point.TheConstants.{MAX_AXES};
 ghost use Rattle.lg_space.specs.Rectangle.{IsIn};
 ghost use Rattle.lg_shape.specs.Shapes.{size_of, whole, place_of};
 ghost use Rattle.lg_shape.specs.Stored.{IsShape};

@@ -1,5 +1,6 @@
 ghost use Rattle.std.specs.Prelude.{◌≡◌, ◌≤◌, ◌<◌, ◌+◌, ◌-◌, ◌*◌, ℕ, List, length, map, take, insert, remove, slice_index_or, IsPermutation, All, false, min};
-ghost use Rattle.lg_space.specs.Stored.{MAX_AXES, MAX_END};
+ghost use Rattle.lg_space.specs.declared.point.TheConstants.{MAX_AXES};
+ghost use Rattle.lg_space.specs.Stored.{MAX_END};
 ghost use Rattle.lg_space.specs.Rectangle.{IsIn};
 ghost use Rattle.lg_shape.specs.Shapes.{whole, size_of};
 ghost use Rattle.lg_shape.specs.Views.{shape_after, index_before, stepped, all_stepped};

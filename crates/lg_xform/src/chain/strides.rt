@@ -1,6 +1,7 @@
 ghost use Rattle.std.specs.Prelude.{◌≡◌, ◌≤◌, ◌<◌, ◌+◌, ℕ, List, length, pos, ◌+ℤ◌, slice_set, slice_index_or};
 ghost use Rattle.lg_space.specs.Rectangle.{IsIn, volume_of, place_in};
-ghost use Rattle.lg_space.specs.Stored.{MAX_AXES, MAX_END, MAX_VOLUME};
+ghost use Rattle.lg_space.specs.declared.point.TheConstants.{MAX_AXES};
+ghost use Rattle.lg_space.specs.Stored.{MAX_END, MAX_VOLUME};
 ghost use Rattle.lg_shape.specs.Shapes.{whole};
 ghost use Rattle.lg_xform.specs.Copies.{along, first_of, next_of, IsStride};
 

@@ -1,6 +1,6 @@
 use Rattle.std.proofs.Common.{◌≡◌, ◌∙◌, ℕ, ◌<◌, ◌≤◌, length, get_or, sym, ap, subst, arith, rules}
 use Rattle.std.proofs.lemmas.List.{length-set, get_or-take}
-use Rattle.lg_space.specs.Stored.{MAX_AXES}
+use Rattle.lg_space.specs.declared.point.TheConstants.{MAX_AXES}
 use Rattle.lg_xform.specs.declared.axis.ViewAxis.{ViewAxis}
 use Rattle.lg_xform.specs.Corners.{end_of}
 use Rattle.lg_xform.specs.Chains.{axes_of}

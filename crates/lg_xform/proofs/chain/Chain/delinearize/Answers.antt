@@ -1,5 +1,5 @@
 use Rattle.std.proofs.Common.{◌≡◌, ◌≤◌, List, ℕ, false, length, min, refl, ap, ◌∙◌, arith, rules}
-use Rattle.lg_space.specs.Stored.{MAX_AXES}
+use Rattle.lg_space.specs.declared.point.TheConstants.{MAX_AXES}
 use Rattle.lg_shape.specs.Shapes.{size_of}
 use Rattle.lg_xform.specs.Moves.{rows_of}
 use Rattle.lg_xform.proofs.Splits.{split_view, split_map}

@@ -1,5 +1,5 @@
 use Rattle.std.proofs.Common.{◌≡◌, ◌-◌, ◌*◌, ◌<◌, ◌≤◌, length, get_or, refl, ap, arith, rules}
-use Rattle.lg_space.specs.Stored.{MAX_AXES}
+use Rattle.lg_space.specs.declared.point.TheConstants.{MAX_AXES}
 use Rattle.lg_xform.proofs.Sums.{add_at_set}
 use Rattle.lg_xform.proofs.Edits.{none, read_at, axis_rooted, axis_small, length-shape_of, length-axes_of, project_within, projected_view, projected}
 use Rattle.lg_xform.proofs.chain.Chain.project.Goals as goal

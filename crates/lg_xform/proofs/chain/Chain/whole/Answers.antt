@@ -2,7 +2,7 @@ use Rattle.std.proofs.Common.{◌≡◌, ◌≤◌, ℕ, List, length, take, map
 use Rattle.lg_space.specs.Rectangle.{IsIn}
 use Rattle.lg_shape.specs.Shapes.{whole}
 use Rattle.lg_xform.specs.Footprints.{HasNoHoles}
-use Rattle.lg_space.specs.Stored.{MAX_AXES}
+use Rattle.lg_space.specs.declared.point.TheConstants.{MAX_AXES}
 use Rattle.lg_xform.proofs.Wholes.{whole_view, whole_moved, laid_whole, full_whole, axes_all, extents-axes_from, inner-axes_from, origin}
 use Rattle.lg_xform.specs.Moves.{extents_of, moved}
 use Rattle.lg_xform.specs.declared.axis.ViewAxis.{ViewAxis}
