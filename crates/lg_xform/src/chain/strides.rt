@@ -1,7 +1,7 @@
 ghost use Rattle.std.specs.Prelude.{◌≡◌, ◌≤◌, ◌<◌, ◌+◌, ℕ, List, length, pos, ◌+ℤ◌, slice_set, slice_index_or};
 ghost use Rattle.lg_space.specs.Rectangle.{IsIn, volume_of, place_in};
 ghost use Rattle.lg_space.specs.declared.point.TheConstants.{MAX_AXES};
-ghost use Rattle.lg_space.specs.Stored.{MAX_END, MAX_VOLUME};
+ghost use Rattle.lg_space.specs.Stored.{MAX_END, MAX_VOLUME, IsStorable};
 ghost use Rattle.lg_shape.specs.Shapes.{whole};
 ghost use Rattle.lg_xform.specs.Copies.{along, first_of, next_of, IsStride};
 
@@ -38,10 +38,9 @@ impl Chain {
             (λ index. place_in tile.now (mapped self.now index)) rect.now axis
             (slice_index_or result.axes axis (pos 0)) }
     {
-        let lows = rect.lows();
-        let base = self.place_in_tile(tile, &Point::new(lows));
+        let base = self.place_in_tile(tile, &first_index(rect));
         let mut axes = [0; 4];
-        for axis in 0..lows.len() {
+        for axis in 0..rect.axes() {
             axes[axis] = self.stride(tile, rect, axis, base);
         }
         Strides { base, axes }
@@ -64,7 +63,8 @@ impl Chain {
         if end - low <= 1 {
             return 0;
         }
-        self.place_in_tile(tile, &next_along(rect.lows(), axis)) as i64 - base as i64
+        let next = next_along(&first_index(rect), axis);
+        self.place_in_tile(tile, &next) as i64 - base as i64
     }
 
     // The place in the tile of the root index that an index leads to.
@@ -75,20 +75,35 @@ impl Chain {
         ensures small { result < MAX_VOLUME }
     {
         let place = tile.ravel(&self.map_point(p));
+        // What is known of every rectangle, its limits, is told with its ranges.
+        let _ranges = tile.ranges();
         prove!(place < tile.volume());
         place
     }
 }
 
-// The index one further on this axis.
-fn next_along(lows: &[u64], axis: usize) -> Point
-    requires few { length lows.now ≤ MAX_AXES }
-    requires axis { axis < length lows.now }
-    requires small { slice_index_or lows.now axis 0 < MAX_END }
-    ensures { result ≡ slice_set lows.now axis (slice_index_or lows.now axis 0 + 1) }
+// The first index of a rectangle that has one.
+fn first_index(rect: &AnyRect) -> Point
+    ensures value { result ≡ first_of rect.now }
+    ensures storable { IsStorable rect.now }
 {
+    let ranges = rect.ranges();
+    let mut lows = [0; 4];
+    for axis in 0..ranges.len() {
+        lows[axis] = ranges[axis].0;
+    }
+    Point::new(&lows[..ranges.len()])
+}
+
+// The index one further on this axis.
+fn next_along(index: &Point, axis: usize) -> Point
+    requires axis { axis < length index.now }
+    requires small { slice_index_or index.now axis 0 < MAX_END }
+    ensures { result ≡ slice_set index.now axis (slice_index_or index.now axis 0 + 1) }
+{
+    let coordinates = index.coordinates();
     let mut next = [0; 4];
-    next[..lows.len()].copy_from_slice(lows);
+    next[..coordinates.len()].copy_from_slice(coordinates);
     next[axis] += 1;
-    Point::new(&next[..lows.len()])
+    Point::new(&next[..coordinates.len()])
 }

@@ -1,5 +1,6 @@
 use Rattle.std.proofs.Common.{◌≡◌, ◌∙◌, ℕ, ◌<◌, ◌≤◌, length, get_or, sym, ap, subst, arith, rules}
 use Rattle.std.proofs.lemmas.List.{length-set, get_or-take}
+use Rattle.std.proofs.lemmas.Option.{get_or_from_slice_get}
 use Rattle.lg_space.specs.declared.point.TheConstants.{MAX_AXES}
 use Rattle.lg_xform.specs.declared.axis.ViewAxis.{ViewAxis}
 use Rattle.lg_xform.specs.Corners.{end_of}
@@ -13,7 +14,8 @@ end-requires c =
     let self = c.args.self.now in
     let long : length self.axes ≡ 4 = search rules in
     let some = range_some c.args.tile.now c.loop-k.k c.range.result c.requires.some (omega (arith, c.loop-k-test.true, c.requires.axes, length-shape_of self, length-axes_of self long)) in
-    let there = subst (λ (r : ℕ × ℕ). r.0 < r.1) (sym c.range.ensures) some in
+    let range = get_or_from_slice_get c.args.tile.now c.loop-k.k c.range.result c.range.result c.range.ensures in
+    let there = subst (λ (r : ℕ × ℕ). r.0 < r.1) range some in
     omega (arith, there)
 
 pub loop-k-preserved : goal.loop-k-preserved
@@ -26,7 +28,8 @@ loop-k-preserved c =
     record {
       room = length-set c.loop-k.at k _ ∙ c.loop-k.invariant.room;
       so_far = corner_more c.args.far (axes_of self) c.args.tile.now c.loop-k.at k c.end.result c.range.result none (c.requires.axes ∙ length-shape_of self)
-          (omega (arith, c.loop-k-test.true, length-axes_of self long)) (omega (arith, c.loop-k-test.true, few, c.loop-k.invariant.room)) c.range.ensures
+          (omega (arith, c.loop-k-test.true, length-axes_of self long)) (omega (arith, c.loop-k-test.true, few, c.loop-k.invariant.room))
+          (sym (get_or_from_slice_get c.args.tile.now k c.range.result c.range.result c.range.ensures))
           (c.end.ensures ∙ ap (λ (a : ViewAxis). end_of c.args.far a.down c.range.result) this) c.loop-k.invariant.so_far;
     }
 
