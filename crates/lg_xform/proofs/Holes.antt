@@ -1,4 +1,5 @@
--- Which steps make no holes: each tile of the view after the step leads where a tile of the view before it led.
+-- Which steps make no holes: each tile of the view after the step leads where a tile of the view
+-- before it led.
 use Rattle.std.proofs.Common.{◌≡◌, ℕ, zero, suc, ◌+◌, ◌-◌, ◌*◌, ◌/◌, ◌%◌, ◌<◌, ◌≤◌, Bool, true, false, ℤ, pos, negsuc, List, [], ◌∷◌, length, map, get_or, set, take, inl, inr, refl, sym, ap, subst, ◌∙◌, arith, get_or-set_same}
 use Rattle.std.specs.List.{insert, remove}
 use Rattle.std.proofs.lemmas.Bool.{cases_lt, false≢true}

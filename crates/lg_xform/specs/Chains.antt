@@ -60,7 +60,8 @@ MayFollow (Transpose axes) root layout inner = Unit {0}
 MayFollow (Delinearize sizes) root layout inner = layout ≡ whole_layout root
 
 -- the step may be taken from this view of the root
-pub record IsChainStep (step : Step) (root : List ℕ) (layout : Layout) (inner : List Bool) : Type 0 where
+pub record IsChainStep (step : Step) (root : List ℕ) (layout : Layout) (inner : List Bool)
+    : Type 0 where
   pub step_of : IsStepOf step layout.shape
   pub shape : IsShape (shape_after step layout.shape)
   pub follows : MayFollow step root layout inner

@@ -21,7 +21,8 @@ next_of rect axis =
     slice_set (first_of rect) axis (slice_index_or (first_of rect) axis 0 + 1)
 
 -- the stride of an axis: how far the next index is from the first. An axis of one coordinate has 0
-pub record IsStride (place : List ℕ → ℕ) (rect : List (ℕ × ℕ)) (axis : ℕ) (stride : ℤ) : Type 0 where
+pub record IsStride (place : List ℕ → ℕ) (rect : List (ℕ × ℕ)) (axis : ℕ) (stride : ℤ)
+    : Type 0 where
   pub next : 1 < (slice_index_or rect axis (0, 0)).1 - (slice_index_or rect axis (0, 0)).0
       → pos (place (next_of rect axis)) ≡ pos (place (first_of rect)) +ℤ stride
   pub still : (slice_index_or rect axis (0, 0)).1 - (slice_index_or rect axis (0, 0)).0 ≤ 1

@@ -21,7 +21,8 @@ boxed [] highs = []
 boxed (low ∷ lows) [] = []
 boxed (low ∷ lows) (high ∷ highs) = (low, high + 1) ∷ boxed lows highs
 
--- a rectangle without indices, with as many axes as the shape; a rectangle without axes would have one
+-- a rectangle without indices, with as many axes as the shape. One without axes would have an
+-- index, so for no axes it has one
 abbrev pub empty_of : List ℕ → List (ℕ × ℕ)
 empty_of [] = (0, 0) ∷ []
 empty_of (extent ∷ shape) = (0, 0) ∷ map (λ extent. (0, 0)) shape

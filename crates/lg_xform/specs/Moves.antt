@@ -51,9 +51,9 @@ IsHeld root from axes =
 abbrev pub AreRooted : List ViewAxis → Type 0
 AreRooted axes = All (λ (axis : ViewAxis). axis.root < MAX_AXES) axes
 
--- the axes into which the one axis of a root is split: each moves it by as many coordinates as there
--- are indices of the axes behind it. `unit` is 1, or 0 where there is no index at all; `inner` says
--- whether the first of them is an inner one
+-- the axes into which the one axis of a root is split: each moves it by as many coordinates as
+-- there are indices of the axes behind it. `unit` is 1, or 0 where there is no index at all;
+-- `inner` says whether the first of them is an inner one
 abbrev pub rows_of : ℕ → Bool → List ℕ → List ViewAxis
 rows_of unit inner [] = []
 rows_of unit inner (extent ∷ sizes) = record {

@@ -11,7 +11,8 @@ IsCoordinate start k (negsuc step) = k * suc step ≤ start
 
 -- each coordinate of the new axis leads where the coordinate of the slice led, with so much ahead,
 -- and the new axis reaches no farther
-pub record IsSliced (start len : ℕ) (step : ℤ) (old : ViewAxis) (ahead : ℕ) (new : ViewAxis) : Type 0 where
+pub record IsSliced (start len : ℕ) (step : ℤ) (old : ViewAxis) (ahead : ℕ) (new : ViewAxis)
+    : Type 0 where
   pub extent : new.extent ≡ len
   pub root : new.root ≡ old.root
   pub inner : new.inner ≡ old.inner

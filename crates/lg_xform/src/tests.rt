@@ -1,5 +1,84 @@
+// The expected indices and rectangles are worked out by hand.
+
 use crate::{Chain, Strides};
+use lg_shape::{Shape, Step};
+use lg_space::{AnyRect, Point};
 use std::test::Fail;
+
+// What stands behind the axes of a transpose.
+const UNUSED: u8 = 9;
+
+// A root of (2, 3) with its axes exchanged, and two columns of it.
+#[test]
+fn transposed(rt: HostRuntime) -> Result<(), Fail> {
+    let root = Chain::whole(&Shape::new(&[2, 3]));
+    let view = root.apply(&Step::Transpose {
+        axes: [1, 0, UNUSED, UNUSED],
+    });
+    assert!(rt; view.shape() == Shape::new(&[3, 2]) && view.root() == Shape::new(&[2, 3]));
+    assert!(rt; view.map_point(&Point::new(&[2, 1])) == Point::new(&[1, 2]));
+    let footprint = view.footprint(&AnyRect::new(&[(0, 2), (1, 2)]));
+    assert!(rt; footprint == AnyRect::new(&[(1, 2), (0, 2)]));
+    let strides = view.strides(
+        &AnyRect::new(&[(0, 2), (1, 3)]),
+        &AnyRect::new(&[(1, 3), (0, 2)]),
+    );
+    assert_eq!(rt; strides.base, 0);
+    assert_eq!(rt; strides.axes, [1, 2, 0, 0]);
+    Ok(())
+}
+
+// A root of six elements as two rows of three, of which the second is taken.
+#[test]
+fn split(rt: HostRuntime) -> Result<(), Fail> {
+    let root = Chain::whole(&Shape::new(&[6]));
+    let view = root.apply(&Step::Delinearize {
+        sizes: Shape::new(&[2, 3]),
+    });
+    assert_eq!(rt; view.whole_axes(), [false, true, false, false]);
+    assert!(rt; view.map_point(&Point::new(&[1, 2])) == Point::new(&[5]));
+    let footprint = view.footprint(&AnyRect::new(&[(1, 2), (0, 3)]));
+    assert!(rt; footprint == AnyRect::new(&[(3, 6)]));
+    Ok(())
+}
+
+// Every second of ten elements, and the last two of those four, the last one first: 7 and 3.
+#[test]
+fn sliced(rt: HostRuntime) -> Result<(), Fail> {
+    let view = Chain::whole(&Shape::new(&[10])).apply_all(&[
+        Step::Slice {
+            axis: 0,
+            start: 1,
+            len: 4,
+            step: 2,
+        },
+        Step::Slice {
+            axis: 0,
+            start: 3,
+            len: 2,
+            step: -2,
+        },
+    ]);
+    assert!(rt; view.shape() == Shape::new(&[2]));
+    assert!(rt; view.map_point(&Point::new(&[0])) == Point::new(&[7]));
+    assert!(rt; view.map_point(&Point::new(&[1])) == Point::new(&[3]));
+    Ok(())
+}
+
+// A new axis on which nothing depends, at an index of the old one; and a view without indices.
+#[test]
+fn promoted(rt: HostRuntime) -> Result<(), Fail> {
+    let view = Chain::whole(&Shape::new(&[3])).apply_all(&[
+        Step::Promote { axis: 0, extent: 4 },
+        Step::Project { axis: 1, index: 2 },
+    ]);
+    assert!(rt; view.shape() == Shape::new(&[4]));
+    assert!(rt; view.map_point(&Point::new(&[3])) == Point::new(&[2]));
+    assert!(rt; view.footprint(&AnyRect::new(&[(0, 4)])) == AnyRect::new(&[(2, 3)]));
+    let scalar = Chain::whole(&Shape::new(&[]));
+    assert!(rt; scalar.footprint(&AnyRect::new(&[])) == AnyRect::new(&[]));
+    Ok(())
+}
 
 // What threads may hold.
 fn crosses_threads<T: Send + Sync>() {}

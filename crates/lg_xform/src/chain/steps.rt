@@ -19,7 +19,8 @@ impl Chain {
     /// The view that a step makes of this one. A delinearize is taken from the view of a whole root
     /// alone, and what splits an axis is followed by promotes and transposes alone.
     pub fn apply(&self, step: &Step) -> Chain
-        requires { IsChainStep step.now (root_of self.now) (layout_of self.now) (inner_of self.now) }
+        requires { IsChainStep step.now (root_of self.now) (layout_of self.now)
+            (inner_of self.now) }
         ensures root { root_of result ≡ root_of self.now }
         ensures shape { shape_of result ≡ shape_after step.now (shape_of self.now) }
         ensures mapped { (index : List ℕ) → IsIn (whole (shape_of result)) index
@@ -33,7 +34,8 @@ impl Chain {
 
     /// The view after several steps, the first one first.
     pub fn apply_all(&self, steps: &[Step]) -> Chain
-        requires { AreChainSteps steps.now (root_of self.now) (layout_of self.now) (inner_of self.now) }
+        requires { AreChainSteps steps.now (root_of self.now) (layout_of self.now)
+            (inner_of self.now) }
         ensures root { root_of result ≡ root_of self.now }
         ensures layout { layout_of result ≡ all_stepped steps.now (layout_of self.now) }
         ensures inner { inner_of result ≡ all_inner steps.now (inner_of self.now) }
@@ -47,7 +49,8 @@ impl Chain {
 
     // The view after a step, by the kind of the step.
     fn stepped(&self, step: &Step) -> Chain
-        requires { IsChainStep step.now (root_of self.now) (layout_of self.now) (inner_of self.now) }
+        requires { IsChainStep step.now (root_of self.now) (layout_of self.now)
+            (inner_of self.now) }
         ensures { IsStepped step.now self.now result }
     {
         match *step {
@@ -172,8 +175,8 @@ fn without_axis(axes: &[ViewAxis; 4], count: usize, at: usize) -> [ViewAxis; 4]
 fn reordered(axes: &[ViewAxis; 4], count: usize, order: &[u8; 4]) -> [ViewAxis; 4]
     requires few { count ≤ 4 }
     requires below { (j : ℕ) → j < count → slice_index_or order.now j 0 < count }
-    ensures { (j : ℕ) (none : ViewAxis) → j < count
-        → slice_index_or result j none ≡ slice_index_or axes.now (slice_index_or order.now j 0) none }
+    ensures { (j : ℕ) (none : ViewAxis) → j < count → slice_index_or result j none
+        ≡ slice_index_or axes.now (slice_index_or order.now j 0) none }
 {
     let mut turned = *axes;
     for j in 0..count {

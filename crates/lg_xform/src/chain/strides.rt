@@ -10,7 +10,7 @@ use lg_space::{AnyRect, Point};
 
 /// Where the indices of a rectangle of a view lie in a tile of its root: the first index at `base`,
 /// counted in elements, and each further one on an axis by the axis's stride further. A stride may
-/// be negative. An axis of one coordinate has the stride 0, and so have the entries behind the axes.
+/// be negative. An axis of one coordinate has the stride 0, and so has each entry behind the axes.
 #[derive(Clone, Copy, Debug)]
 pub struct Strides {
     /// The place of the first index.
