@@ -10,3 +10,4 @@ pub mod Deeper
 pub mod Picking
 pub mod Checking
 pub mod Broadcasts
+pub mod Plain

@@ -2,7 +2,7 @@ ghost use Rattle.std.specs.Prelude.{◌≡◌, ℕ, ◌+◌, ◌<◌, ◌≤◌,
 ghost use Rattle.std.specs.Result.{result_err, OnOk};
 ghost use Rattle.smallvec.specs.SmallVec.{small_vec_len};
 ghost use Rattle.lg_space.specs.Stored.{MAX_END};
-ghost use Rattle.lg_shape.specs.Steps.{AreStepsOf};
+ghost use Rattle.lg_shape.specs.Steps.{AreStepsOf, AreIndexSteps};
 ghost use Rattle.lg_shape.specs.Stored.{IsShape};
 ghost use Rattle.lg_shape.specs.Indexing.{has_coordinate, coordinate, bound, is_plain, named_axes, ellipses, item_fault, indexed_shape, index_fault, Picks};
 ghost use Rattle.lg_shape.specs.IndexSteps.{cut_steps, promote_steps, integers, added_axes, taken_axes, counted_from_start};
@@ -32,6 +32,7 @@ pub fn apply_index(
     ensures few { IfOk result (λ steps. small_vec_len steps ≤ 8) }
     ensures inline { IfOk result (λ steps. steps.capacity ≡ 8) }
     ensures allowed { IfOk result (λ steps. AreStepsOf steps.items shape.now) }
+    ensures plain { IfOk result (λ steps. AreIndexSteps steps.items) }
     ensures picks { IfOk result (λ steps. Picks shape.now items.now steps.items) }
     ensures limits { OnOk result (IsShape (indexed_shape shape.now items.now)) }
 {

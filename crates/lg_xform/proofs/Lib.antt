@@ -13,3 +13,4 @@ pub mod Dense
 pub mod Points
 pub mod Corners
 pub mod Linear
+pub mod Picks

@@ -7,6 +7,7 @@ ghost use Rattle.lg_shape.specs.Views.{whole_layout};
 ghost use Rattle.lg_xform.specs.Moves.{extents_of, IsHeld, AreRooted};
 
 mod footprint;
+mod indexing;
 mod steps;
 mod strides;
 

@@ -1,7 +1,7 @@
 // The expected indices and rectangles are worked out by hand.
 
 use crate::{Chain, Strides};
-use lg_shape::{Shape, Step};
+use lg_shape::{IndexFault, IndexItem, Shape, Step};
 use lg_space::{AnyRect, Point};
 use std::test::Fail;
 
@@ -77,6 +77,30 @@ fn promoted(rt: HostRuntime) -> Result<(), Fail> {
     assert!(rt; view.footprint(&AnyRect::new(&[(0, 4)])) == AnyRect::new(&[(2, 3)]));
     let scalar = Chain::whole(&Shape::new(&[]));
     assert!(rt; scalar.footprint(&AnyRect::new(&[])) == AnyRect::new(&[]));
+    Ok(())
+}
+
+// Row 3 of four, columns 1 to 3 of five: the places 16, 17 and 18. A row 4 is out of range.
+#[test]
+fn indexed(rt: HostRuntime) -> Result<(), Fail> {
+    let root = Chain::whole(&Shape::new(&[4, 5]));
+    let columns = IndexItem::Slice {
+        start: Some(1),
+        stop: Some(-1),
+        step: None,
+    };
+    let Ok(view) = root.index(rt.alloc(), &[IndexItem::At(-1), columns]) else {
+        panic!(rt; "the index has no fault");
+    };
+    assert!(rt; view.shape() == Shape::new(&[3]));
+    let last = Point::new(&[2]);
+    assert!(rt; view.shape().whole().contains(&last));
+    assert!(rt; view.map_point(&last) == Point::new(&[3, 3]));
+    let fault = root.index(
+        rt.alloc(),
+        &[IndexItem::Ellipsis, IndexItem::At(4), columns],
+    );
+    assert!(rt; matches!(fault, Err(IndexFault::OutOfRange { item: 1 })));
     Ok(())
 }
 

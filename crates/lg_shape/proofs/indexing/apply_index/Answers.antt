@@ -1,6 +1,7 @@
 use Rattle.std.proofs.Common.{◌+◌, ◌-◌, ◌++◌, length, sym, ap, ◌∙◌, arith}
 use Rattle.lg_shape.specs.Indexing.{index_fault}
 use Rattle.lg_shape.specs.IndexSteps.{cut_steps, promote_steps}
+use Rattle.lg_shape.proofs.Plain.{plain_steps}
 use Rattle.lg_shape.proofs.Checking.{checked_by, checked_taken, checked_too_many, done_by}
 use Rattle.lg_shape.proofs.indexing.apply_index.Goals as goal
 
@@ -88,6 +89,15 @@ returns-clause-allowed c =
     let missing = length extents - (result.integers + result.slices) in
     let done = done_by c.args.shape.now extents items missing result.integers result.new_axes same checked counted.integers counted.new_axes c.if-extents-counts-gt-MAX_AXES.false c.in_ok-add_cuts.ensures.fault in
     done.allowed c.add_promotes.new.steps.items (c.add_promotes.ensures.steps ∙ ap (λ l. l ++ promote_steps 0 missing items)
+    (c.in_ok-add_cuts.ensures.steps ∙ ap (λ l. l ++ cut_steps 0 missing extents items) c.new-steps.ensures.items))
+
+pub returns-clause-plain : goal.returns-clause-plain
+returns-clause-plain c =
+    let extents = c.extents-extents.result.now in
+    let items = c.args.items.now in
+    let result = c.counts_of-counts.result in
+    let missing = length extents - (result.integers + result.slices) in
+    plain_steps missing extents items c.add_promotes.new.steps.items (c.add_promotes.ensures.steps ∙ ap (λ l. l ++ promote_steps 0 missing items)
     (c.in_ok-add_cuts.ensures.steps ∙ ap (λ l. l ++ cut_steps 0 missing extents items) c.new-steps.ensures.items))
 
 pub returns-clause-picks : goal.returns-clause-picks
