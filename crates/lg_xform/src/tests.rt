@@ -80,7 +80,7 @@ fn promoted(rt: HostRuntime) -> Result<(), Fail> {
     Ok(())
 }
 
-// Row 3 of four, columns 1 to 3 of five: the places 16, 17 and 18. A row 4 is out of range.
+// The last of four rows, and the three columns in the middle of five. There is no fifth row.
 #[test]
 fn indexed(rt: HostRuntime) -> Result<(), Fail> {
     let root = Chain::whole(&Shape::new(&[4, 5]));
