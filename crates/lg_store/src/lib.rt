@@ -1,7 +1,7 @@
 //! The roots of arrays by number, and views of them.
 //!
-//! A root is an array that owns its elements. An array of a script is a view of one: which root, and
-//! which of its elements.
+//! A root is an array that owns its elements. An array of a script is a view of one: which root,
+//! and which of its elements.
 #![tactic(auto)]
 
 mod stores;

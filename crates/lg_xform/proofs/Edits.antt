@@ -63,12 +63,6 @@ root_small c k = elim (cases_lt k (length c.root)) [
   | inr past ↦ omega (arith, get_or_past c.root k 0 past)
 ]
 
-pub shape_small : (c : Chain) (k : ℕ) → get_or (shape_of c) k 0 ≤ MAX_END
-shape_small c k = elim (cases_lt k (length (shape_of c))) [
-  | inl lt ↦ (let s : IsShape (shape_of c) = c.shape in All-get_or (λ extent. extent ≤ MAX_END) (shape_of c) k 0 lt s.extents)
-  | inr past ↦ omega (arith, get_or_past (shape_of c) k 0 past)
-]
-
 pub axis_rooted : (c : Chain) (j : ℕ) → length c.axes ≡ 4 → j < c.count → (get_or c.axes j none).root < 4
 axis_rooted c j long lt =
     let all : AreRooted (axes_of c) = c.rooted in

@@ -145,6 +145,14 @@ run_of start len step extent low high axis of dense some within = elim dense [
   ]
 ]
 
+-- a tile whose range was replaced, and put back
+put_back : (after : List (ℕ × ℕ)) (index : List ℕ) (j : ℕ) (run : ℕ × ℕ) (k : ℕ) → IsIn (set (set after j run) j (get_or after j (0, 0))) (set index j k) → IsIn after (set index j k)
+put_back after index j run k h = subst (λ r. IsIn r (set index j k)) (set-set after j run (get_or after j (0, 0)) ∙ set-get_or after j (0, 0)) h
+
+-- another coordinate of the same range
+set_in : (after : List (ℕ × ℕ)) (first : List ℕ) (j at : ℕ) → IsIn after first → j < length after → (get_or after j (0, 0)).0 ≤ at → at < (get_or after j (0, 0)).1 → IsIn after (set first j at)
+set_in after first j at some lt low high = subst (λ r. IsIn r (set first j at)) (set-get_or after j (0, 0)) (in-set after first j (get_or after j (0, 0)) at low high some)
+
 slice_back : (index : List ℕ) (j k start : ℕ) (step : ℤ) → j < length index → sliced_at start step k ≡ get_or index j 0
     → set (set index j k) j (sliced_at start step (get_or (set index j k) j 0)) ≡ index
 slice_back index j k start step lt e =
@@ -154,37 +162,34 @@ slice_back index j k start step lt e =
 module _ (shape : List ℕ) (inner : List Bool) (m n : List ℕ → List ℕ) (j start len : ℕ) (step : ℤ) (of : IsStepOf (Slice j start len step) shape) (unsplit : IsUnsplit inner)
     (dense : IsDenseStep (Slice j start len step))
     (full : HasNoHoles shape inner m) (same : (index : List ℕ) → IsIn (whole (set shape j len)) index → n index ≡ m (index_before (Slice j start len step) index)) where
+  -- where the coordinates of the slice are a range
+  slice_by : (after : List (ℕ × ℕ)) (first : List ℕ) → IsTile (set shape j len) inner after → IsIn after first → j < length after → (run : ℕ × ℕ)
+      → IsRun start step (get_or after j (0, 0)).0 (get_or after j (0, 0)).1 run → (rect : List (ℕ × ℕ)) × IsFootprint n after rect
+  slice_by after first is some lt run is_run =
+      carried (Slice j start len step) shape inner m n of full same after first is some (set after j run)
+      (λ index h. (let c = between_at after index j h lt in
+      let in' = is_run.into (get_or index j 0) c.from c.below in
+      in-set after index j run (sliced_at start step (get_or index j 0)) in'.0 in'.1 h))
+      (λ index h. (let c = between_at (set after j run) index j h (omega (arith, length-set after j run, lt)) in
+      let there = get_or-set_same after j run (0, 0) lt in
+      let low : run.0 ≤ get_or index j 0 = subst (λ (r : ℕ × ℕ). r.0 ≤ get_or index j 0) there c.from in
+      let high : get_or index j 0 < run.1 = subst (λ (r : ℕ × ℕ). get_or index j 0 < r.1) there c.below in
+      let o = is_run.onto (get_or index j 0) low high in
+      let axes : j < length index = omega (arith, same_axes (set after j run) index h, length-set after j run, lt) in
+      (set index j o.0, put_back after index j run o.0 (in-set (set after j run) index j (get_or after j (0, 0)) o.0 o.1 o.2 h), slice_back index j o.0 start step axes o.3)))
+      (λ axis e. absurd (unsplit_none inner unsplit axis e))
+
   pub slice_full : HasNoHoles (set shape j len) inner n
   slice_full after first is some =
-      let long : length after ≡ length shape = is.axes ∙ length-set shape j len in
-      let lt : j < length after = omega (arith, long, of.0) in
+      let lt : j < length after = omega (arith, is.axes, length-set shape j len, of.0) in
       let range = get_or after j (0, 0) in
       let b = between_at after first j some lt in
       let last = set first j (range.1 - 1) in
-      let last_in : IsIn after last = subst (λ r. IsIn r last) (set-get_or after j (0, 0)) (in-set after first j range (range.1 - 1) (omega (arith, b.from, b.below)) (omega (arith, b.below)) some) in
+      let there = set_in after first j (range.1 - 1) some lt (omega (arith, b.from, b.below)) (omega (arith, b.below)) in
       let at_last : get_or last j 0 ≡ range.1 - 1 = get_or-set_same first j (range.1 - 1) 0 (omega (arith, same_axes after first some, lt)) in
-      let below : range.1 - 1 < len = omega (arith, at_last, in_whole_below (set shape j len) last j (is.within last last_in) (omega (arith, length-set shape j len, of.0)), get_or-set_same shape j len 0 of.0) in
+      let below : range.1 - 1 < len = omega (arith, at_last, in_whole_below (set shape j len) last j (is.within last there) (omega (arith, length-set shape j len, of.0)), get_or-set_same shape j len 0 of.0) in
       let run = run_of start len step (get_or shape j 0) range.0 range.1 j of.1 dense (omega (arith, b.from, b.below)) (omega (arith, below)) in
-      let tile = set after j run.0 in
-      let is_run = run.1 in
-      carried (Slice j start len step) shape inner m n of full same after first is some tile
-      (λ index h. (let c = between_at after index j h lt in
-      let in' = is_run.into (get_or index j 0) c.from c.below in
-      in-set after index j run.0 (sliced_at start step (get_or index j 0)) in'.0 in'.1 h))
-      (λ index h. (let c = between_at tile index j h (omega (arith, length-set after j run.0, lt)) in
-      let there = get_or-set_same after j run.0 (0, 0) lt in
-      let low : run.0.0 ≤ get_or index j 0 = subst (λ (r : ℕ × ℕ). r.0 ≤ get_or index j 0) there c.from in
-      let high : get_or index j 0 < run.0.1 = subst (λ (r : ℕ × ℕ). get_or index j 0 < r.1) there c.below in
-      let o = is_run.onto (get_or index j 0) low high in
-      let at = set index j o.0 in
-      let put = in-set tile index j range o.0 o.1 o.2 h in
-      let back = set-set after j run.0 range ∙ set-get_or after j (0, 0) in
-      let axes : j < length index = omega (arith, same_axes tile index h, length-set after j run.0, lt) in (
-        at,
-        subst (λ r. IsIn r at) back put,
-        slice_back index j o.0 start step axes o.3,
-      )))
-      (λ axis e. absurd (unsplit_none inner unsplit axis e))
+      slice_by after first is some lt run.0 run.1
 
 -- ---- transpose
 

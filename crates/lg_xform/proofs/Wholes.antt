@@ -1,7 +1,7 @@
 -- The view of a whole root.
-use Rattle.std.proofs.Common.{◌≡◌, ℕ, zero, suc, ◌+◌, ◌-◌, ◌*◌, ◌<◌, ◌≤◌, Bool, false, List, [], ◌∷◌, ◌++◌, length, map, get_or, set, take, replicate, refl, sym, ap, subst, ◌∙◌, arith}
+use Rattle.std.proofs.Common.{◌≡◌, ℕ, zero, suc, ◌+◌, ◌-◌, ◌*◌, ◌<◌, ◌≤◌, Bool, false, List, [], ◌∷◌, length, map, get_or, take, replicate, refl, sym, ap, subst, ◌∙◌, arith}
 use Rattle.std.specs.List.{range_with_len}
-use Rattle.std.proofs.lemmas.List.{ext_get_or, take_more_set, take_more, take_all, get_or-take, length-take, get_or-map, length-map}
+use Rattle.std.proofs.lemmas.List.{ext_get_or, take_all, get_or-take, length-take, get_or-map, length-map}
 use Rattle.std.proofs.lemmas.Option.{slice_get-get_or}
 use Rattle.std.proofs.lemmas.List.Elements.{All-nil, All-cons}
 use Rattle.std.proofs.lemmas.List.FromFn.{get_or-range_with_len, length-range_with_len}
@@ -35,14 +35,6 @@ extents-axes_from k (extent ∷ shape) = ap (λ l. extent ∷ l) (extents-axes_f
 pub inner-axes_from : (k : ℕ) (shape : List ℕ) → map (λ (axis : ViewAxis). axis.inner) (axes_from k shape) ≡ replicate (length shape) false
 inner-axes_from k [] = refl
 inner-axes_from k (extent ∷ shape) = ap (λ l. false ∷ l) (inner-axes_from (k + 1) shape)
-
-pub get_or-axes_from : (k j : ℕ) (shape : List ℕ) (d : ViewAxis) → j < length shape
-    → get_or (axes_from k shape) j d ≡ record { extent = get_or shape j 0; root = k + j; stride = 1; down = false; inner = false }
-get_or-axes_from k j [] d h = absurd (omega arith)
-get_or-axes_from k zero (extent ∷ shape) d h = let e : k ≡ k + 0 = omega arith in λ i. record { extent = extent; root = e i; stride = 1; down = false; inner = false }
-get_or-axes_from k (suc j) (extent ∷ shape) d h =
-    let e : k + 1 + j ≡ k + suc j = omega arith in
-    get_or-axes_from (k + 1) j shape d (omega arith) ∙ (λ i. record { extent = get_or shape j 0; root = e i; stride = 1; down = false; inner = false })
 
 rooted_from : (k : ℕ) (shape : List ℕ) → k + length shape ≤ MAX_AXES → AreRooted (axes_from k shape)
 rooted_from k [] h = All-nil _
@@ -134,17 +126,6 @@ whole_places shape m same =
     let once = stands_once (whole shape) k index (slice_get-get_or (places shape) k [] in') in
     let there : get_or each k 0 ≡ k = get_or-map (λ i. place_of shape (m i)) (places shape) k [] 0 in' ∙ ap (place_of shape) (same index once.0) ∙ once.1 in
     omega (arith, there, get_or-range_with_len 0 (size_of shape) k 0 (omega (arith, lt, size)))))
-
--- one more axis was written
-pub axes_more : (shape : List ℕ) (axes : List ViewAxis) (axis : ℕ) → axis < length shape → axis < length axes → take axis axes ≡ take axis (axes_from 0 shape)
-    → take (axis + 1) (set axes axis (record { extent = get_or shape axis 0; root = axis; stride = 1; down = false; inner = false })) ≡ take (axis + 1) (axes_from 0 shape)
-axes_more shape axes axis lt room so_far =
-    let new : ViewAxis = record { extent = get_or shape axis 0; root = axis; stride = 1; down = false; inner = false } in
-    let e : 0 + axis ≡ axis = omega arith in
-    let at : get_or (axes_from 0 shape) axis new ≡ new =
-    get_or-axes_from 0 axis shape new lt ∙ (λ i. record { extent = get_or shape axis 0; root = e i; stride = 1; down = false; inner = false }) in
-    take_more_set axes axis new room ∙ (λ i. so_far i ++ sym at i ∷ [])
-    ∙ sym (take_more (axes_from 0 shape) axis new (omega (arith, length-axes_from 0 shape)))
 
 -- all axes were written
 pub axes_all : (shape extents : List ℕ) (axes : List ViewAxis) (axis : ℕ) → extents ≡ shape → length extents ≤ axis → axis ≤ length extents

@@ -75,10 +75,12 @@ impl Chain {
         }
     }
 
-    /// The shape of the root.
+    /// The shape of the root, in which each index of the view leads to an index.
     pub fn root(&self) -> Shape
         ensures value { result ≡ root_of self.now }
         ensures shape { IsShape (root_of self.now) }
+        ensures inside { (index : List ℕ) → IsIn (whole (shape_of self.now)) index
+            → IsIn (whole (root_of self.now)) (mapped self.now index) }
     {
         self.root
     }
