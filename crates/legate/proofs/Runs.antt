@@ -48,7 +48,8 @@ run-append {s} {t} (there line {lines = lines} {text = text} fine rest) others =
     ∙ ap (λ (r : Run). record { text = (step line.statement s).text ++ r.text; end = r.end }) (run-append rest others)
     ∙ ap (λ (l : List ℕ). record { text = l; end = (run_from others t).end }) (sym (append_assoc (step line.statement s).text text (run_from others t).text))
 
--- the statements have no fault, what they print was appended, and the session stands for the state after them
+-- the statements have no fault, what they print was appended, and the session stands for the state
+-- after them
 pub record Reached (session : Session) (lines : List LineTree) (old new : Option (List ℕ)) : Type 0 where
   pub state : State
   pub text : List ℕ

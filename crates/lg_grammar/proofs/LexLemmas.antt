@@ -1,4 +1,5 @@
--- What a line lexes to, from its front: blanks in front change nothing, and the tokens are determined.
+-- What a line lexes to, from its front: blanks in front change nothing, and the tokens are
+-- determined.
 use Rattle.std.proofs.Common.{◌≡◌, ℕ, ◌+◌, ◌<◌, ◌≤◌, true, false, List, [], ◌∷◌, ◌++◌, length, get_or, drop, refl, sym, ap, ◌∙◌, subst, arith, append_assoc, append-nil, length-append, IsTrue}
 use Rattle.std.specs.List.{AllByRecursion, All}
 use Rattle.std.proofs.lemmas.List.{drop_more, drop_all, map_push}

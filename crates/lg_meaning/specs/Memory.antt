@@ -43,7 +43,8 @@ numbers_of (Some root) = root.numbers
 -- the numbers at a view's places
 abbrev pub viewed : Memory → View → List ℤ
 viewed memory view =
-    map (λ place. slice_index_or (numbers_of (slice_get memory view.root)) place (pos 0)) view.places
+    map (λ place. slice_index_or (numbers_of (slice_get memory view.root)) place (pos 0))
+    view.places
 
 -- what each name stands for
 abbrev pub Names : Type 0

@@ -80,7 +80,8 @@ impl Source for MemorySource {
             ≡ (if is_err result then count_up (source_faults self.old)
             else source_faults self.old) }
         ensures amount { IfOk result (λ n.
-            n ≡ min (source_piece self.old) (min (length buf.old) (length (source_left self.old)))) }
+            n ≡ min (source_piece self.old)
+            (min (length buf.old) (length (source_left self.old)))) }
         ensures same_piece { source_piece self.new ≡ source_piece self.old }
         ensures same_failing { source_failing self.new ≡ source_failing self.old }
     {

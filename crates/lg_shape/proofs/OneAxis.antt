@@ -8,7 +8,8 @@ use Rattle.lg_shape.proofs.Parts.{parts_cut, cut_at}
 pub tiles-one_axis : (pieces n : ℕ) (rest : List Bool) → tiles pieces (n ∷ []) (false ∷ rest) ≡ map (λ range. range ∷ []) (parts pieces n)
 tiles-one_axis pieces n rest = flat_map_single (λ range. range ∷ []) (parts pieces n)
 
--- where the part of this number begins, and where the part before it ends. The number of parts is allowed here too
+-- where the part of this number begins, and where the part before it ends. The number of parts is
+-- allowed here too
 abbrev pub border : ℕ → ℕ → ℕ → ℕ
 border pieces n number = min n (number * part_extent pieces n)
 

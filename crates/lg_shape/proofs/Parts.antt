@@ -19,7 +19,8 @@ ceiling_begins a b k h below = omega (arith, mul-le (k + 1) b (ceiling a b) b (o
 pub ceiling_most : (a b m : ℕ) → 1 ≤ b → a ≤ m * b → ceiling a b ≤ m
 ceiling_most a b m h reaches = grind (arith, ceiling_begins a b m h)
 
--- an axis of this extent, cut into so many parts of this size: at least one, and none begins behind the end
+-- an axis of this extent, cut into so many parts of this size: at least one, and none begins behind
+-- the end
 pub record IsCut (extent size count : ℕ) : Type 0 where
   pub some : 1 ≤ count
   pub size_some : 1 ≤ size
@@ -122,7 +123,8 @@ cuts_axis extent size count cut = record {
       sym (part_of extent size first i (rw e at low) (rw e at high)) ∙ part_of extent size second i (rw f at low_second) (rw f at high_second);
 }
 
--- the parts of the rule are ordered, within the axis, and each number of the axis is in exactly one of them
+-- the parts of the rule are ordered, within the axis, and each number of the axis is in exactly one
+-- of them
 pub parts_axis : (pieces extent : ℕ) → 1 ≤ pieces → CutsAxis (parts pieces extent) extent
 parts_axis pieces extent h = cuts_axis extent (part_extent pieces extent) (part_count pieces extent) (parts_cut pieces extent h)
 

@@ -1,5 +1,5 @@
--- Where two shapes do not broadcast, and what the extents are where they do. After NumPy's reference,
--- "Broadcasting". Axes are counted from the last one, from 0 on.
+-- Where two shapes do not broadcast, and what the extents are where they do. After NumPy's
+-- reference, "Broadcasting". Axes are counted from the last one, from 0 on.
 use Rattle.std.specs.Prelude.{◌≡◌, ◌≢◌, ℕ, ◌<◌, ◌⊎◌, List, length, reverse, Some, slice_get, slice_index_or}
 
 -- both shapes have the axis, the extents differ, and neither of them is 1

@@ -12,8 +12,8 @@ AreStepsOf (step ∷ steps) shape =
     IsStepOf step shape × IsShape (shape_after step shape)
     × AreStepsOf steps (shape_after step shape)
 
--- a step that an index takes: it takes an axis away, keeps a run of its coordinates, or adds an axis
--- of extent 1
+-- a step that an index takes: it takes an axis away, keeps a run of its coordinates, or adds an
+-- axis of extent 1
 abbrev pub IsIndexStep : Step → Type 0
 IsIndexStep (Promote axis extent) = extent ≡ 1
 IsIndexStep (Project axis index) = Unit {0}

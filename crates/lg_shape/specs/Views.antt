@@ -37,7 +37,8 @@ abbrev pub shape_after : Step → List ℕ → List ℕ
 shape_after (Promote axis extent) shape = insert shape axis extent
 shape_after (Project axis index) shape = remove shape axis
 shape_after (Slice axis start len step) shape = slice_set shape axis len
-shape_after (Transpose axes) shape = map (λ axis. slice_index_or shape axis 1) (take (length shape) axes)
+shape_after (Transpose axes) shape =
+    map (λ axis. slice_index_or shape axis 1) (take (length shape) axes)
 shape_after (Delinearize sizes) shape = sizes
 
 -- the index before a step that belongs to an index after it
@@ -53,7 +54,9 @@ index_before (Delinearize sizes) index = place_of sizes index ∷ []
 abbrev pub stepped : Step → Layout → Layout
 stepped step layout = record {
   shape = shape_after step layout.shape;
-  places = map (λ index. place_at layout (index_before step index)) (places (shape_after step layout.shape));
+  places =
+    map (λ index. place_at layout (index_before step index))
+    (places (shape_after step layout.shape));
 }
 
 -- a view after several steps, the first one first

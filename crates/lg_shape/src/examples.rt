@@ -19,7 +19,8 @@ pub fn indices_by_example()
     ensures added { indexed (whole_layout (2 ∷ 3 ∷ [])) (At (pos 1) ∷ NewAxis ∷ [])
         ≡ record { shape = 1 ∷ 3 ∷ []; places = 3 ∷ 4 ∷ 5 ∷ [] } }
     ensures none { indexed (whole_layout (4 ∷ []))
-        (Slice (Some (pos 10)) (Some (negsuc 9)) None ∷ []) ≡ record { shape = 0 ∷ []; places = [] } }
+        (Slice (Some (pos 10)) (Some (negsuc 9)) None ∷ [])
+        ≡ record { shape = 0 ∷ []; places = [] } }
 {}
 
 /// What each kind of step makes of a whole root, and steps in a row.

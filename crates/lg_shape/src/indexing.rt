@@ -93,8 +93,8 @@ fn counts_of(items: &[IndexItem]) -> Counts
     counts
 }
 
-// Adds the steps for integers and slices, from left to right, where `...` stands for so many axes. The
-// first item that has a fault ends it.
+// Adds the steps for integers and slices, from left to right, where `...` stands for so many axes.
+// The first item that has a fault ends it.
 fn add_cuts(
     steps: &mut SmallVec<Step, 8>,
     extents: &[u64],
@@ -147,7 +147,8 @@ fn add_cuts(
     Ok(())
 }
 
-// Adds the steps for new axes, from left to right, to a view from which the integers' axes are gone.
+// Adds the steps for new axes, from left to right, to a view from which the integers' axes are
+// gone.
 fn add_promotes(steps: &mut SmallVec<Step, 8>, missing: usize, items: &[IndexItem])
     requires axes { taken_axes missing items.now + added_axes items.now ≤ 8 }
     requires room { small_vec_len steps.old + added_axes items.now ≤ steps.old.capacity }

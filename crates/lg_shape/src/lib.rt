@@ -1,5 +1,5 @@
-//! Shapes of arrays, how two of them broadcast, which steps an index of a view takes, and the rule by
-//! which a shape is cut into tiles.
+//! Shapes of arrays, how two of them broadcast, which steps an index of a view takes, and the rule
+//! by which a shape is cut into tiles.
 #![tactic(auto)]
 
 mod examples;

@@ -6,8 +6,9 @@ ghost use Rattle.lg_shape.specs.Stored.{IsShape};
 use lg_space::AnyRect;
 use std::marker::Model;
 
-/// The shape of an array: an extent for each axis, from the first axis on. There are at most four axes, and no extent is
-/// above 2 ^ 24. Contracts see the list of the extents. The limits are this project's own.
+/// The shape of an array: an extent for each axis, from the first axis on. There are at most four
+/// axes, and no extent is above 2 ^ 24. Contracts see the list of the extents. The limits are this
+/// project's own.
 #[derive(Clone, Copy, Debug, PartialEq, Eq)]
 pub struct Shape {
     axes: u8,

@@ -6,7 +6,8 @@ use std::alloc::Global;
 use std::process::Abort;
 use std::test::Fail;
 
-// A shape without axes has one index, one with an extent of 0 has none, and an axis of extent 1 is an axis.
+// A shape without axes has one index, one with an extent of 0 has none, and an axis of extent 1 is
+// an axis.
 #[test]
 fn wholes(rt: HostRuntime) -> Result<(), Fail> {
     assert!(rt; Shape::new(&[]).whole() == AnyRect::new(&[]));
