@@ -55,8 +55,8 @@ abbrev pub stepped : Step → Layout → Layout
 stepped step layout = record {
   shape = shape_after step layout.shape;
   places =
-    map (λ index. place_at layout (index_before step index))
-    (places (shape_after step layout.shape));
+      map (λ index. place_at layout (index_before step index))
+      (places (shape_after step layout.shape));
 }
 
 -- a view after several steps, the first one first
