@@ -1,0 +1,5 @@
+pub mod DecimalLemmas
+pub mod KindLemmas
+pub mod FrontLemmas
+pub mod LineLemmas
+pub mod ReaderLemmas

@@ -1,0 +1,5 @@
+pub mod Bytes
+pub mod Lexical
+pub mod Line
+pub mod Operators
+pub mod Laws
