@@ -1,12 +1,13 @@
 -- What contracts see of a tile of any element type: the type, the rectangle and the whole numbers
 -- of its elements. The order of the elements is NumPy's C order (NumPy's reference, "Internal
 -- memory layout of an ndarray").
-use Rattle.std.specs.Prelude.{ℕ, List, map, ℤ, pos}
+use Rattle.std.specs.Prelude.{◌≡◌, ℕ, List, map, ℤ, pos}
 use Rattle.std.specs.Int.{from_bool}
 use Rattle.lg_elem.specs.declared.dtype.DType.{DType}
 use Rattle.lg_elem.specs.declared.dtype.DType.TheVariants as types
 use Rattle.lg_tile.specs.declared.any_tile.AnyTile.{AnyTile}
 use Rattle.lg_tile.specs.declared.any_tile.AnyTile.TheVariants.{Bool as Truth, Int8, Int16, Int32, Int64, UInt8, UInt16, UInt32, UInt64}
+use Rattle.lg_tile.specs.declared.tile.Tile.{Tile}
 use Rattle.lg_tile.specs.Tile.{tile_rect, tile_items}
 
 -- the element type
@@ -44,3 +45,9 @@ numbers (UInt8 tile) = map (λ x. pos x) (tile_items tile)
 numbers (UInt16 tile) = map (λ x. pos x) (tile_items tile)
 numbers (UInt32 tile) = map (λ x. pos x) (tile_items tile)
 numbers (UInt64 tile) = map (λ x. pos x) (tile_items tile)
+
+-- the tile of any type is this tile of a known type, whose elements have these numbers
+abbrev pub IsTyped : {T : Type 0} → DType → (T → ℤ) → Tile T → AnyTile → Type 0
+IsTyped dtype number tile any =
+    (dtype_of any ≡ dtype) × (rect_of any ≡ tile_rect tile)
+    × (numbers any ≡ map number (tile_items tile))

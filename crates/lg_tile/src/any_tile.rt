@@ -4,7 +4,7 @@ ghost use Rattle.lg_space.specs.Rectangle.{IsIn, place_in, volume_of};
 ghost use Rattle.lg_tile.specs.Tile.{tile_items, tile_rect};
 ghost use Rattle.lg_tile.specs.Tiles.{dtype_of, numbers, rect_of};
 
-use crate::Tile;
+use crate::{Tile, TileElem, by_type, each};
 use lg_elem::{DType, Elem};
 use lg_outside::NoMemory;
 use lg_space::{AnyRect, Point};
@@ -25,23 +25,6 @@ pub enum AnyTile {
     UInt64(Tile<u64>),
 }
 
-// What an expression gives at the typed tile, whichever its type.
-macro_rules! each {
-    ($any:expr, $tile:ident => $body:expr) => {
-        match $any {
-            AnyTile::Bool($tile) => $body,
-            AnyTile::Int8($tile) => $body,
-            AnyTile::Int16($tile) => $body,
-            AnyTile::Int32($tile) => $body,
-            AnyTile::Int64($tile) => $body,
-            AnyTile::UInt8($tile) => $body,
-            AnyTile::UInt16($tile) => $body,
-            AnyTile::UInt32($tile) => $body,
-            AnyTile::UInt64($tile) => $body,
-        }
-    };
-}
-
 impl AnyTile {
     /// A tile of this type with the same number at each index (NumPy's reference, "numpy.full"). It
     /// takes memory once, and the only error is that there is none.
@@ -51,17 +34,7 @@ impl AnyTile {
         ensures rect { IfOk result (λ tile. rect_of tile ≡ rect.now) }
         ensures numbers { IfOk result (λ tile. numbers tile ≡ replicate (volume_of rect.now) x) }
     {
-        Ok(match dtype {
-            DType::Bool => AnyTile::Bool(filled_with(alloc, rect, x)?),
-            DType::Int8 => AnyTile::Int8(filled_with(alloc, rect, x)?),
-            DType::Int16 => AnyTile::Int16(filled_with(alloc, rect, x)?),
-            DType::Int32 => AnyTile::Int32(filled_with(alloc, rect, x)?),
-            DType::Int64 => AnyTile::Int64(filled_with(alloc, rect, x)?),
-            DType::UInt8 => AnyTile::UInt8(filled_with(alloc, rect, x)?),
-            DType::UInt16 => AnyTile::UInt16(filled_with(alloc, rect, x)?),
-            DType::UInt32 => AnyTile::UInt32(filled_with(alloc, rect, x)?),
-            DType::UInt64 => AnyTile::UInt64(filled_with(alloc, rect, x)?),
-        })
+        by_type!(dtype, filled_with::<_>(alloc, rect, x))
     }
 
     /// The element type.
@@ -108,17 +81,7 @@ impl AnyTile {
         ensures rect { IfOk result (λ tile. rect_of tile ≡ rect_of self.now) }
         ensures numbers { IfOk result (λ tile. numbers tile ≡ numbers self.now) }
     {
-        Ok(match self {
-            AnyTile::Bool(tile) => AnyTile::Bool(tile.copied(alloc)?),
-            AnyTile::Int8(tile) => AnyTile::Int8(tile.copied(alloc)?),
-            AnyTile::Int16(tile) => AnyTile::Int16(tile.copied(alloc)?),
-            AnyTile::Int32(tile) => AnyTile::Int32(tile.copied(alloc)?),
-            AnyTile::Int64(tile) => AnyTile::Int64(tile.copied(alloc)?),
-            AnyTile::UInt8(tile) => AnyTile::UInt8(tile.copied(alloc)?),
-            AnyTile::UInt16(tile) => AnyTile::UInt16(tile.copied(alloc)?),
-            AnyTile::UInt32(tile) => AnyTile::UInt32(tile.copied(alloc)?),
-            AnyTile::UInt64(tile) => AnyTile::UInt64(tile.copied(alloc)?),
-        })
+        each!(self, tile => copy_of(tile, alloc))
     }
 }
 
@@ -138,14 +101,23 @@ fn element<T: Elem>(x: i128) -> T
     T::wrap(x)
 }
 
-// A typed tile with the element of a number at each index.
-fn filled_with<T: Elem>(alloc: Global, rect: &AnyRect, x: i128) -> Result<Tile<T>, NoMemory>
+// A tile of a known type with the element of a number at each index.
+fn filled_with<T: TileElem>(alloc: Global, rect: &AnyRect, x: i128) -> Result<AnyTile, NoMemory>
     requires { IsNumber T.DTYPE x }
-    ensures rect { IfOk result (λ tile. tile_rect tile ≡ rect.now) }
-    ensures numbers { IfOk result (λ tile. map T.number (tile_items tile)
-        ≡ replicate (volume_of rect.now) x) }
+    ensures dtype { IfOk result (λ tile. dtype_of tile ≡ T.DTYPE) }
+    ensures rect { IfOk result (λ tile. rect_of tile ≡ rect.now) }
+    ensures numbers { IfOk result (λ tile. numbers tile ≡ replicate (volume_of rect.now) x) }
 {
-    Tile::filled(alloc, rect, element(x))
+    Ok(T::any(Tile::filled(alloc, rect, element(x))?))
+}
+
+// A copy of a typed tile.
+fn copy_of<T: TileElem>(tile: &Tile<T>, alloc: Global) -> Result<AnyTile, NoMemory>
+    ensures dtype { IfOk result (λ copy. dtype_of copy ≡ T.DTYPE) }
+    ensures rect { IfOk result (λ copy. rect_of copy ≡ tile_rect tile.now) }
+    ensures numbers { IfOk result (λ copy. numbers copy ≡ map T.number (tile_items tile.now)) }
+{
+    Ok(T::any(tile.copied(alloc)?))
 }
 
 // The number of a typed tile's element.

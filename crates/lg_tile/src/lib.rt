@@ -3,11 +3,15 @@
 #![tactic(auto)]
 
 mod any_tile;
+mod choosing;
 pub mod laws;
 mod tile;
+mod typed;
 
 pub use any_tile::AnyTile;
+pub use lg_elem::DType;
 pub use tile::Tile;
+pub use typed::TileElem;
 
 #[cfg(test)]
 mod tests;
