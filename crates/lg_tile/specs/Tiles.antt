@@ -1,10 +1,11 @@
 -- What contracts see of a tile of any element type: the type, the rectangle and the whole numbers
 -- of its elements. The order of the elements is NumPy's C order (NumPy's reference, "Internal
 -- memory layout of an ndarray").
-use Rattle.std.specs.Prelude.{◌≡◌, ℕ, List, map, ℤ, pos}
+use Rattle.std.specs.Prelude.{◌≡◌, ℕ, List, map, ℤ, pos, slice_index_or}
 use Rattle.std.specs.Int.{from_bool}
 use Rattle.lg_elem.specs.declared.dtype.DType.{DType}
 use Rattle.lg_elem.specs.declared.dtype.DType.TheVariants as types
+use Rattle.lg_space.specs.Rectangle.{place_in}
 use Rattle.lg_tile.specs.declared.any_tile.AnyTile.{AnyTile}
 use Rattle.lg_tile.specs.declared.any_tile.AnyTile.TheVariants.{Bool as Truth, Int8, Int16, Int32, Int64, UInt8, UInt16, UInt32, UInt64}
 use Rattle.lg_tile.specs.declared.tile.Tile.{Tile}
@@ -51,3 +52,7 @@ abbrev pub IsTyped : {T : Type 0} → DType → (T → ℤ) → Tile T → AnyTi
 IsTyped dtype number tile any =
     (dtype_of any ≡ dtype) × (rect_of any ≡ tile_rect tile)
     × (numbers any ≡ map number (tile_items tile))
+
+-- the number of the element at an index of the rectangle
+abbrev pub number_at : AnyTile → List ℕ → ℤ
+number_at tile index = slice_index_or (numbers tile) (place_in (rect_of tile) index) (pos 0)

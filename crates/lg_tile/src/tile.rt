@@ -1,6 +1,7 @@
 ghost use Rattle.std.specs.Prelude.{◌≡◌, length};
 ghost use Rattle.lg_space.specs.Rectangle.{volume_of};
 
+use crate::section::{Section, section_of};
 use lg_elem::Elem;
 use lg_outside::NoMemory;
 use lg_space::{AnyRect, Point};
@@ -16,10 +17,11 @@ pub struct Tile<T> {
     ghost full: { length items.items ≡ volume_of rect },
 }
 
-impl<T: Elem> Tile<T> {
+impl<T: Elem + Drop> Tile<T> {
     ghost use Rattle.std.specs.Prelude.{◌≡◌, IfOk, length, replicate, slice_get, slice_set, Some};
     ghost use Rattle.std.specs.Borrow.{sem};
     ghost use Rattle.lg_space.specs.Rectangle.{IsIn, place_in, volume_of};
+    ghost use Rattle.lg_tile.specs.Sections.{Covers, IsSection, section_items};
     ghost use Rattle.lg_tile.specs.Tile.{tile_items, tile_rect};
     ghost use Rattle.lg_tile.specs.TileLends.{lends_items};
 
@@ -109,5 +111,16 @@ impl<T: Elem> Tile<T> {
     {
         let items = Vec::from_slice(alloc, &self.items)?;
         Ok(Tile::new(self.rect, items))
+    }
+
+    /// The elements at the indices of a part of the rectangle, in row-major order. They are lent as
+    /// they lie where the part is the whole rectangle, and else copied. It takes memory at most
+    /// once, and the only error is that there is none.
+    pub fn section(&self, alloc: Global, part: &AnyRect) -> Result<Section<'_, T>, NoMemory>
+        requires { Covers (tile_rect self.now) part.now }
+        ensures { IfOk result (λ section. IsSection (tile_rect self.now) part.now
+            (tile_items self.now) (section_items section)) }
+    {
+        section_of(alloc, &self.items, &self.rect, part)
     }
 }
