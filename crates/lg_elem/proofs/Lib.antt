@@ -1,1 +1,9 @@
 pub mod WrapLemmas
+pub mod Products
+pub mod Congruence
+pub mod Bitwise
+pub mod Shifts
+pub mod Floors
+pub mod Machine
+pub mod Powers
+pub mod Divided

@@ -21,7 +21,7 @@ less_times : (a r q m : ℕ) → r + q * m ≡ a → pos r ≡ pos a +ℤ (neg_�
 less_times a r zero m h = omega (arith, ints)
 less_times a r (suc q) m h = omega (arith, ints)
 
-rem_congruent : (m : ℕ) (x : ℤ) → 0 < m → IsCongruent m x (int_rem_euclid x (pos m))
+pub rem_congruent : (m : ℕ) (x : ℤ) → 0 < m → IsCongruent m x (int_rem_euclid x (pos m))
 rem_congruent m (pos a) h = (neg_ℤ (pos (a / m)), less_times a (a % m) (a / m) m (omega arith))
 rem_congruent m (negsuc a) h = (pos (a / m + 1), omega (arith, ints))
 
@@ -84,7 +84,7 @@ wrap_to_one s n x y h f c =
     let fits = wrap_to-fits s n x h in
     congruent_same (2 ^ n) x y (wrap_to s n x) c (wrap_to-congruent s n x) (span s n (wrap_to s n x) y h fits.0 f.1) (span s n y (wrap_to s n x) h f.0 fits.1)
 
-congruent_self : (m : ℕ) (x : ℤ) → IsCongruent m x x
+pub congruent_self : (m : ℕ) (x : ℤ) → IsCongruent m x x
 congruent_self m x = (pos 0, omega (arith, ints))
 
 -- ---- each type

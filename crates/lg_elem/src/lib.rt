@@ -1,18 +1,21 @@
 //! The element types of arrays, and the operations on single elements.
 #![tactic(auto)]
 
+mod division;
 mod dtype;
 mod elem;
 mod implementations;
+pub mod kernels;
 mod kinds;
 pub mod laws;
 mod operations;
+mod power;
 mod wrapping;
 
 pub use dtype::DType;
 pub use elem::Elem;
-pub use kinds::{Binary, Flag};
-pub use operations::binary;
+pub use kinds::{Binary, Compare, Flag, Unary};
+pub use operations::{allowed_binary, allowed_unary, binary, compare, int_pow, unary};
 
 #[cfg(test)]
 mod tests;
