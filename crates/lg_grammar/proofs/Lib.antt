@@ -1,7 +1,4 @@
 pub mod ResultLemmas
-pub mod NumberLemmas
-pub mod TokenLemmas
-pub mod LexLemmas
 pub mod PlaceLemmas
 pub mod TreeLemmas
 pub mod GrammarLemmas

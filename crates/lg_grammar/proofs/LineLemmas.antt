@@ -1,15 +1,15 @@
 -- What the lines of a script spell, from its front.
 use Rattle.std.proofs.Common.{◌≡◌, ℕ, ◌+◌, ◌≤◌, ◌⊎◌, inl, inr, List, [], ◌∷◌, ◌++◌, length, refl, sym, ap, ◌∙◌, subst, arith, length-append, append_assoc, append-nil}
 use Rattle.std.proofs.lemmas.List.{length-map}
-use Rattle.lg_grammar.specs.Token.{Token, Lexes}
+use Rattle.lg_lex.specs.Line.{Reads, ReadsNone}
+use Rattle.lg_lex.proofs.LineLemmas.{reads_once}
+use Rattle.lg_grammar.specs.Token.{Token, token_of, tokens_of}
 use Rattle.lg_grammar.specs.Tree.{StatementTree, LineTree}
 use Rattle.lg_grammar.specs.Grammar.{SpellsStatement}
 use Rattle.lg_grammar.specs.Script.{lines_of, IsIndented, SpellsLine, IsSkipped, SpellsLines, Spells, IsBad, IsFirstBad}
-use Rattle.lg_grammar.specs.Reading.{token_of, tokens_of, LexesNone}
 use Rattle.lg_grammar.specs.Parsing.{SpellsNothing}
-use Rattle.lg_grammar.specs.declared.tokens.Token.{Token as Span}
+use Rattle.lg_lex.specs.declared.tokens.Token.{Token as Span}
 use Rattle.lg_grammar.specs.Lines.{HoldsNothing}
-use Rattle.lg_grammar.proofs.LexLemmas.{lexes_once}
 use Rattle.lg_grammar.proofs.GrammarLemmas.{statement_once, no_statement}
 
 abbrev numbered : ℕ → StatementTree → LineTree
@@ -18,10 +18,10 @@ numbered k s = record { number = k; statement = s }
 -- a line holds one statement at most, and none where it is skipped
 pub line_once : (line : List ℕ) (s t : StatementTree) → SpellsLine line s → SpellsLine line t → s ≡ t
 line_once line s t h k =
-    statement_once h.tokens s t h.spelled (subst (λ (z : List Token). SpellsStatement z t) (lexes_once line k.tokens h.tokens k.lexed h.lexed) k.spelled)
+    statement_once (tokens_of line h.tokens) s t h.spelled (subst (λ (z : List Span). SpellsStatement (tokens_of line z) t) (reads_once line k.tokens h.tokens k.lexed h.lexed) k.spelled)
 
 pub skipped_none : (line : List ℕ) (s : StatementTree) → IsSkipped line → SpellsLine line s → ⊥
-skipped_none line s h k = no_statement s (subst (λ (z : List Token). SpellsStatement z s) (lexes_once line k.tokens [] k.lexed h) k.spelled)
+skipped_none line s h k = no_statement s (subst (λ (z : List Span). SpellsStatement (tokens_of line z) s) (reads_once line k.tokens [] k.lexed h) k.spelled)
 
 -- the first line is skipped, or it holds the first statement
 pub record Begins (k : ℕ) (line : List ℕ) (lines : List (List ℕ)) (script : List LineTree) : Type 0 where
@@ -136,19 +136,19 @@ bad_first bytes others line k done few bad r =
     record { front = r.front; line = line; behind = others; read = done; cut = r.cut; counted = r.counted; good = r.good; few = few; bad = bad }
 
 -- what is known of one line
-pub lexes_nothing : (line : List ℕ) → LexesNone line → HoldsNothing line
+pub lexes_nothing : (line : List ℕ) → ReadsNone line → HoldsNothing line
 lexes_nothing line none = record { not_skipped = none []; no_statement = λ s h. none h.tokens h.lexed }
 
-not_blank : (line : List ℕ) (ts : List Token) → Lexes line ts → (ts ≡ [] → ⊥) → IsSkipped line → ⊥
-not_blank line ts h some skipped = some (lexes_once line ts [] h skipped)
+not_blank : (line : List ℕ) (ts : List Span) → Reads line ts → (ts ≡ [] → ⊥) → IsSkipped line → ⊥
+not_blank line ts h some skipped = some (reads_once line ts [] h skipped)
 
-pub indented_nothing : (line : List ℕ) (ts : List Token) → Lexes line ts → (ts ≡ [] → ⊥) → (IsIndented 0 line → ⊥) → HoldsNothing line
+pub indented_nothing : (line : List ℕ) (ts : List Span) → Reads line ts → (ts ≡ [] → ⊥) → (IsIndented 0 line → ⊥) → HoldsNothing line
 indented_nothing line ts h some blank = record { not_skipped = not_blank line ts h some; no_statement = λ s k. blank k.indented }
 
-pub unspelled_nothing : (line : List ℕ) (ts : List Token) → Lexes line ts → (ts ≡ [] → ⊥) → SpellsNothing ts → HoldsNothing line
+pub unspelled_nothing : (line : List ℕ) (ts : List Span) → Reads line ts → (ts ≡ [] → ⊥) → SpellsNothing (tokens_of line ts) → HoldsNothing line
 unspelled_nothing line ts h some none = record {
   not_skipped = not_blank line ts h some;
-  no_statement = λ s k. none s (subst (λ (z : List Token). SpellsStatement z s) (lexes_once line k.tokens ts k.lexed h) k.spelled);
+  no_statement = λ s k. none s (subst (λ (z : List Span). SpellsStatement (tokens_of line z) s) (reads_once line k.tokens ts k.lexed h) k.spelled);
 }
 
 pub nothing_bad : (line : List ℕ) (before : List LineTree) → HoldsNothing line → IsBad line before
@@ -157,7 +157,7 @@ nothing_bad line before h = record { not_skipped = h.not_skipped; no_room = λ s
 pub full_bad : (line : List ℕ) (before : List LineTree) (s : StatementTree) → SpellsLine line s → 1000 ≤ length before → IsBad line before
 full_bad line before s h full = record { not_skipped = λ skipped. skipped_none line s skipped h; no_room = λ t k. full }
 
-pub some_tokens : (line : List ℕ) (ts : List Span) (n : ℕ) → n ≡ length ts → (n ≡ 0 → ⊥) → tokens_of line ts ≡ [] → ⊥
-some_tokens line ts n count some none =
-    let e : length (tokens_of line ts) ≡ 0 = ap length none in
-    some (omega (arith, length-map ts (token_of line)))
+pub some_tokens : (ts : List Span) (n : ℕ) → n ≡ length ts → (n ≡ 0 → ⊥) → ts ≡ [] → ⊥
+some_tokens ts n count some none =
+    let e : length ts ≡ 0 = ap length none in
+    some (omega arith)

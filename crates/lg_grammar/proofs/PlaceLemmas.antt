@@ -2,8 +2,10 @@
 use Rattle.std.proofs.Common.{◌≡◌, ℕ, suc, zero, ◌+◌, ◌<◌, Option, None, Some, IfSome, IfNone, List, [], ◌∷◌, length, get_or, refl, sym, ap, subst, add-one}
 use Rattle.std.specs.List.{All, slice_get}
 use Rattle.std.proofs.lemmas.Option.{slice_get_within, get_or_from_slice_get}
-use Rattle.lg_grammar.specs.Reading.{token_of, tokens_of, left, IsSpan}
-use Rattle.lg_grammar.specs.declared.tokens.Token.{Token as Span}
+use Rattle.lg_lex.specs.Line.{Stands}
+use Rattle.lg_grammar.specs.Token.{token_of, tokens_of}
+use Rattle.lg_grammar.specs.Reading.{left}
+use Rattle.lg_lex.specs.declared.tokens.Token.{Token as Span}
 
 left_some : (line : List ℕ) (ts : List Span) (place : ℕ) (t : Span) → slice_get ts place ≡ Some t → left line ts place ≡ token_of line t ∷ left line ts (suc place)
 left_some line [] place t e = absurd (cc)
@@ -21,12 +23,12 @@ pub found_at : (o : Option Span) (ts : List Span) (place : ℕ) → o ≡ slice_
 found_at None ts place e = tt
 found_at (Some t) ts place e = λ line. rw add-one (left_some line ts place t (sym e))
 
-pub inside_at : (o : Option Span) (ts : List Span) (place : ℕ) → o ≡ slice_get ts place → IfSome o (λ t. (line : List ℕ) → All (IsSpan line) ts → IsSpan line t)
+pub inside_at : (o : Option Span) (ts : List Span) (place : ℕ) → o ≡ slice_get ts place → IfSome o (λ t. (line : List ℕ) → All (Stands line) ts → Stands line t)
 inside_at None ts place e = tt
 inside_at (Some t) ts place e = λ line h.
     let within : place < length ts = slice_get_within ts place t (sym e) in
     let same : get_or ts place t ≡ t = get_or_from_slice_get ts place t t (sym e) in
-    subst (λ (z : Span). IsSpan line z) same (h place t within)
+    subst (λ (z : Span). Stands line z) same (h place t within)
 
 pub within_at : (o : Option Span) (ts : List Span) (place : ℕ) → o ≡ slice_get ts place → IfSome o (λ t. place < length ts)
 within_at None ts place e = tt

@@ -6,7 +6,6 @@ pub mod Script
 pub mod Laws
 pub mod View
 pub mod Reading
-pub mod Signs
 pub mod Parsing
 pub mod Lines
 pub mod Ends

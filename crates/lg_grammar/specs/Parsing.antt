@@ -1,6 +1,7 @@
 -- What the steps of the parser over a line's tokens give.
 use Rattle.std.specs.Prelude.{◌≡◌, ℕ, suc, ◌<◌, ◌≤◌, max, List, [], ◌∷◌, ◌++◌, codes, ⊤}
-use Rattle.lg_grammar.specs.Token.{Token, word, number, plus, opening, closing, comma}
+use Rattle.lg_grammar.specs.Token.{Token, word, number, sign}
+use Rattle.lg_lex.specs.declared.tokens.TokenKind.TheVariants.{Plus, LeftParenthesis, RightParenthesis, Comma}
 use Rattle.lg_grammar.specs.Tree.{Tree, StatementTree, height}
 use Rattle.lg_grammar.specs.Grammar.{Form, term, sum, SpellsTree, SpellsStatement}
 use Rattle.lg_grammar.specs.declared.parsing.ParseEnd.{ParseEnd}
@@ -8,7 +9,7 @@ use Rattle.lg_grammar.specs.declared.parsing.ParseEnd.TheVariants.{Syntax, NoMem
 
 -- the tokens of a full array
 abbrev pub full_tokens : ℕ → ℕ → List Token
-full_tokens n x = word (codes "full") ∷ opening ∷ number n ∷ comma ∷ number x ∷ closing ∷ []
+full_tokens n x = word (codes "full") ∷ sign LeftParenthesis ∷ number n ∷ sign Comma ∷ number x ∷ sign RightParenthesis ∷ []
 
 -- the tokens in front are the form and mean the tree, and the next ones stand behind them
 pub record Finds (form : Form) (from next : List Token) (e : Tree) : Type 0 where
@@ -18,7 +19,7 @@ pub record Finds (form : Form) (from next : List Token) (e : Tree) : Type 0 wher
 
 -- no `+` stands in front
 abbrev pub BeginsNoPlus : List Token → Type 0
-BeginsNoPlus rest = (ts : List Token) → rest ≡ plus ∷ ts → ⊥
+BeginsNoPlus rest = (ts : List Token) → rest ≡ sign Plus ∷ ts → ⊥
 
 -- no term stands in front
 abbrev pub FindsNoTerm : List Token → Type 0

@@ -1,14 +1,21 @@
 -- Which script the bytes spell, and which line is the first bad one. The rules on lines are this
 -- project's own.
-use Rattle.std.specs.Prelude.{◌≡◌, ℕ, ◌+◌, ◌*◌, ◌≤◌, ◌==◌, List, [], ◌∷◌, ◌++◌, length, replicate, ◌⊎◌}
+use Rattle.std.specs.Prelude.{◌≡◌, ℕ, ◌+◌, ◌*◌, ◌≤◌, ◌==◌, List, [], ◌∷◌, ◌++◌, length, replicate, take_while, ◌⊎◌}
 use Rattle.std.specs.List.{slice_split}
-use Rattle.lg_grammar.specs.Token.{Token, Lexes, indentation}
+use Rattle.lg_lex.specs.Bytes.{is_blank}
+use Rattle.lg_lex.specs.Line.{Reads}
+use Rattle.lg_lex.specs.declared.tokens.Token.{Token}
+use Rattle.lg_grammar.specs.Token.{tokens_of}
 use Rattle.lg_grammar.specs.Tree.{StatementTree, LineTree}
 use Rattle.lg_grammar.specs.Grammar.{SpellsStatement}
 
 -- the lines: the bytes are cut at each byte 10
 abbrev pub lines_of : List ℕ → List (List ℕ)
 lines_of bytes = slice_split (λ b. b == 10) bytes
+
+-- the blanks before the first token
+abbrev pub indentation : List ℕ → List ℕ
+indentation line = take_while is_blank line
 
 -- four spaces for each level, and no tab
 abbrev pub IsIndented : ℕ → List ℕ → Type 0
@@ -18,12 +25,12 @@ IsIndented depth line = indentation line ≡ replicate (4 * depth) 32
 pub record SpellsLine (line : List ℕ) (statement : StatementTree) : Type 0 where
   pub tokens : List Token
   pub indented : IsIndented 0 line
-  pub lexed : Lexes line tokens
-  pub spelled : SpellsStatement tokens statement
+  pub lexed : Reads line tokens
+  pub spelled : SpellsStatement (tokens_of line tokens) statement
 
 -- the line has no token
 abbrev pub IsSkipped : List ℕ → Type 0
-IsSkipped line = Lexes line []
+IsSkipped line = Reads line []
 
 -- the lines, numbered from k on, hold these statements: each line is skipped or holds the next one
 abbrev pub SpellsLines : ℕ → List (List ℕ) → List LineTree → Type 0

@@ -1,7 +1,7 @@
 -- Words that can't be names: Python's keywords, and the words of this project's own language.
 use Rattle.std.specs.Prelude.{◌≡◌, ℕ, false, List, [], ◌∷◌, ◌++◌, codes, bytes_eq}
 use Rattle.std.specs.List.{list_any}
-use Rattle.lg_grammar.specs.Token.{IsWord}
+use Rattle.lg_lex.specs.Lexical.{IsWord}
 
 -- the keywords of Python
 abbrev pub keywords : List (List ℕ)

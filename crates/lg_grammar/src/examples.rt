@@ -1,7 +1,7 @@
 //! Worked examples of the definitions. Each clause is computed by the check, so a definition that
 //! says something else is refused. The values are counted by hand.
 ghost use Rattle.std.specs.Prelude.{◌≡◌, codes, List, [], ◌∷◌};
-ghost use Rattle.lg_grammar.specs.Grammar.{MAX_HEIGHT};
+ghost use Rattle.lg_grammar.specs.Grammar.{MAX_HEIGHT, MAX_LITERAL};
 ghost use Rattle.lg_grammar.specs.Script.{MAX_STATEMENTS, IsIndented, lines_of};
 ghost use Rattle.lg_grammar.specs.Tree.{name, full, add, bind, print, height, nodes, line_nodes};
 
@@ -24,7 +24,8 @@ pub fn nodes_by_example()
     ensures printed { line_nodes (record { number = 9; statement = print (name (codes "a")) }) ≡ 1 }
 {}
 
-/// Where lines are cut, how a depth is indented, and how many statements there may be.
+/// Where lines are cut, how a depth is indented, how many statements there may be, and the greatest
+/// number.
 pub fn lines_by_example()
     ensures cut { lines_of (codes "a\n\nb\n") ≡ codes "a" ∷ [] ∷ codes "b" ∷ [] ∷ [] }
     ensures empty { lines_of [] ≡ [] ∷ [] }
@@ -32,4 +33,5 @@ pub fn lines_by_example()
     ensures one_deep { IsIndented 1 (codes "    a = b") }
     ensures two_deep { IsIndented 2 (codes "        a = b") }
     ensures limit { MAX_STATEMENTS ≡ 1000 }
+    ensures literal { MAX_LITERAL ≡ 16777216 }
 {}

@@ -1,17 +1,18 @@
 //! From the tokens of a line to its statement.
 
 ghost use Rattle.std.specs.Prelude.{◌≡◌, ◌+◌, ◌<◌, ◌≤◌, ◌∷◌, ◌++◌, suc, max, ℕ, codes, length, All, IfOk, IfErr, IfSome, IfNone, OnOk};
-ghost use Rattle.lg_grammar.specs.Token.{word};
+ghost use Rattle.lg_lex.specs.Line.{Stands};
+ghost use Rattle.lg_grammar.specs.Token.{word, tokens_of};
 ghost use Rattle.lg_grammar.specs.Word.{IsName};
 ghost use Rattle.lg_grammar.specs.Tree.{add, height as tree_height};
-ghost use Rattle.lg_grammar.specs.Grammar.{sum, term, SpellsStatement};
-ghost use Rattle.lg_grammar.specs.Reading.{tokens_of, left, IsSpan, Tokens};
+ghost use Rattle.lg_grammar.specs.Grammar.{sum, term, MAX_LITERAL, SpellsStatement};
+ghost use Rattle.lg_grammar.specs.Reading.{left, Tokens};
 ghost use Rattle.lg_grammar.specs.Parsing.{full_tokens, Finds, BeginsNoPlus, EndsTerm, EndsSum, EndsStatement, EndsAdded};
 ghost use Rattle.lg_grammar.specs.View.{tree_of, statement_of};
 
 use crate::places::{after_sign, after_word, name_at, number_at};
-use crate::tokens::{Token, TokenKind};
 use crate::trees::{Expr, Statement};
+use lg_lex::{Token, TokenKind};
 use sqlite_items::{Boxed, Items};
 use std::alloc::{AllocError, Global};
 
@@ -47,7 +48,7 @@ struct Parsed {
 
 /// The statement that the tokens of a line are.
 pub fn statement(alloc: Global, line: &[u8], tokens: &[Token]) -> Result<Statement, ParseEnd>
-    requires { All (IsSpan line.now) tokens.now }
+    requires { All (Stands line.now) tokens.now }
     ensures found { IfOk result (λ s. SpellsStatement (tokens_of line.now tokens.now)
         (statement_of s)) }
     ensures end { IfErr result (EndsStatement (tokens_of line.now tokens.now)) }
@@ -65,18 +66,18 @@ fn printing(
     tokens: &[Token],
     place: usize,
 ) -> Result<Statement, ParseEnd>
-    requires spans { All (IsSpan line.now) tokens.now }
+    requires spans { All (Stands line.now) tokens.now }
     requires begun { tokens_of line.now tokens.now ≡ word (codes "print")
         ∷ left line.now tokens.now place }
     ensures found { IfOk result (λ s. SpellsStatement (tokens_of line.now tokens.now)
         (statement_of s)) }
     ensures end { IfErr result (EndsStatement (tokens_of line.now tokens.now)) }
 {
-    let Some(place) = after_sign(tokens, place, TokenKind::Opening) else {
+    let Some(place) = after_sign(tokens, place, TokenKind::LeftParenthesis) else {
         return Err(ParseEnd::Syntax);
     };
     let parsed = sum(alloc, line, tokens, place)?;
-    let Some(place) = after_sign(tokens, parsed.next, TokenKind::Closing) else {
+    let Some(place) = after_sign(tokens, parsed.next, TokenKind::RightParenthesis) else {
         return Err(ParseEnd::Syntax);
     };
     if place < tokens.len() {
@@ -87,7 +88,7 @@ fn printing(
 
 /// `name = sum`
 fn binding(alloc: Global, line: &[u8], tokens: &[Token]) -> Result<Statement, ParseEnd>
-    requires spans { All (IsSpan line.now) tokens.now }
+    requires spans { All (Stands line.now) tokens.now }
     requires no_print { (rest : Tokens) → tokens_of line.now tokens.now ≡ word (codes "print")
         ∷ rest → ⊥ }
     ensures found { IfOk result (λ s. SpellsStatement (tokens_of line.now tokens.now)
@@ -97,7 +98,7 @@ fn binding(alloc: Global, line: &[u8], tokens: &[Token]) -> Result<Statement, Pa
     let Some(word) = name_at(line, tokens, 0) else {
         return Err(ParseEnd::Syntax);
     };
-    let Some(place) = after_sign(tokens, 1, TokenKind::Equals) else {
+    let Some(place) = after_sign(tokens, 1, TokenKind::Equal) else {
         return Err(ParseEnd::Syntax);
     };
     let parsed = sum(alloc, line, tokens, place)?;
@@ -113,7 +114,7 @@ fn binding(alloc: Global, line: &[u8], tokens: &[Token]) -> Result<Statement, Pa
 
 /// The longest sum at a place.
 fn sum(alloc: Global, line: &[u8], tokens: &[Token], place: usize) -> Result<Parsed, ParseEnd>
-    requires { All (IsSpan line.now) tokens.now }
+    requires { All (Stands line.now) tokens.now }
     ensures found { IfOk result (λ p.
         Finds sum (left line.now tokens.now place) (left line.now tokens.now p.next)
         (tree_of p.tree)) }
@@ -156,7 +157,7 @@ fn added(alloc: Global, left: Parsed, right: Parsed) -> Result<Parsed, ParseEnd>
 
 /// The term at a place.
 fn term(alloc: Global, line: &[u8], tokens: &[Token], place: usize) -> Result<Parsed, ParseEnd>
-    requires { All (IsSpan line.now) tokens.now }
+    requires { All (Stands line.now) tokens.now }
     ensures found { IfOk result (λ p.
         Finds term (left line.now tokens.now place) (left line.now tokens.now p.next)
         (tree_of p.tree)) }
@@ -186,18 +187,20 @@ fn term(alloc: Global, line: &[u8], tokens: &[Token], place: usize) -> Result<Pa
 
 /// The numbers of `full(extent, value)` at a place, and the place after it.
 fn full(line: &[u8], tokens: &[Token], place: usize) -> Option<(u32, u32, usize)>
-    requires { All (IsSpan line.now) tokens.now }
+    requires { All (Stands line.now) tokens.now }
     ensures found { IfSome result (λ p.
         left line.now tokens.now place ≡ full_tokens p.0 p.1 ++ left line.now tokens.now p.2) }
+    ensures extent { IfSome result (λ p. p.0 ≤ MAX_LITERAL) }
+    ensures value { IfSome result (λ p. p.1 ≤ MAX_LITERAL) }
     ensures within { IfSome result (λ p. (place < p.2) × (p.2 ≤ length tokens.now)) }
-    ensures none { IfNone result ((n x : ℕ) (rest : Tokens)
+    ensures none { IfNone result ((n x : ℕ) (rest : Tokens) → n ≤ MAX_LITERAL → x ≤ MAX_LITERAL
         → left line.now tokens.now place ≡ full_tokens n x ++ rest → ⊥) }
 {
     let place = after_word(line, tokens, place, b"full")?;
-    let place = after_sign(tokens, place, TokenKind::Opening)?;
-    let extent = number_at(tokens, place)?;
+    let place = after_sign(tokens, place, TokenKind::LeftParenthesis)?;
+    let extent = number_at(line, tokens, place)?;
     let place = after_sign(tokens, place + 1, TokenKind::Comma)?;
-    let value = number_at(tokens, place)?;
-    let place = after_sign(tokens, place + 1, TokenKind::Closing)?;
+    let value = number_at(line, tokens, place)?;
+    let place = after_sign(tokens, place + 1, TokenKind::RightParenthesis)?;
     Some((extent, value, place))
 }

@@ -9,10 +9,9 @@ ghost use Rattle.lg_grammar.specs.View.{script_of};
 ghost use Rattle.lg_grammar.specs.Lines.{lines_view, lines_from, HoldsLine, EndsLine, AddsLine, EndsAdding};
 ghost use Rattle.lg_grammar.specs.Ends.{ScriptTree, SpellsNone, NamesFirstBad};
 
-use crate::lexing::{is_blank, lex_line};
 use crate::parsing::{ParseEnd, statement};
-use crate::tokens::LexEnd;
 use crate::trees::{Line, Script, Statement};
+use lg_lex::{LexEnd, is_blank, lex_line};
 use sqlite_items::Items;
 use std::alloc::Global;
 use thiserror::Error;

@@ -54,6 +54,19 @@ fn bad_scripts(rt: HostRuntime) {
 }
 
 #[test]
+fn tokens_of_no_production(rt: HostRuntime) {
+    let alloc = rt.alloc();
+    expect_bad(&rt, alloc, b"a = b ** c", 1);
+    expect_bad(&rt, alloc, b"a = b\na += c", 2);
+    expect_bad(&rt, alloc, b"a == b", 1);
+    expect_bad(&rt, alloc, b"print(a[1:])", 1);
+    expect_bad(&rt, alloc, b"a = b - c", 1);
+    expect_bad(&rt, alloc, b"a = b\n...", 2);
+    expect_bad(&rt, alloc, b"print(full(3, 18446744073709551615))", 1);
+    expect_bad(&rt, alloc, b"print(full(18446744073709551616, 3))", 1);
+}
+
+#[test]
 fn reserved_words(rt: HostRuntime) {
     let alloc = rt.alloc();
     expect_bad(&rt, alloc, b"full = full(1, 2)", 1);

@@ -34,6 +34,16 @@ decimal_some n low = (decimal_is_IsNumeral n (small n low)).0.0
 pub decimal_value : (n : ℕ) → n ≤ MAX_NUMBER → digits_value 10 (decimal n) ≡ n
 decimal_value n low = (decimal_is_IsNumeral n (small n low)).1
 
+-- the bytes of a number: there is one, and they have its value
+pub number_some : (ds : List ℕ) → IsNumber ds → 0 < length ds
+number_some ds h =
+    let some : 0 < length (decimal h.0) = decimal_some h.0 h.1.0 in
+    let count : length ds ≡ length (decimal h.0) = ap length h.1.1 in
+    omega arith
+
+pub number_value : (ds : List ℕ) (n : ℕ) → n ≤ MAX_NUMBER → decimal n ≡ ds → digits_value 10 ds ≡ n
+number_value ds n low e = ap (digits_value 10) (sym e) ∙ decimal_value n low
+
 -- no number begins with a needless zero
 pub refused_zero : (ds : List ℕ) → IsNumber ds → 1 < length ds → get_or ds 0 0 ≡ 48 → ⊥
 refused_zero ds h long zero =

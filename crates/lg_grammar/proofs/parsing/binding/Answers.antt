@@ -1,7 +1,7 @@
 use Rattle.std.proofs.Common.{List, ℕ, sym, subst}
 use Rattle.lg_grammar.specs.Tree.{bind}
 use Rattle.lg_grammar.specs.Grammar.{SpellsStatement}
-use Rattle.lg_grammar.specs.Reading.{tokens_of}
+use Rattle.lg_grammar.specs.Token.{tokens_of}
 use Rattle.lg_grammar.specs.Parsing.{EndsStatement}
 use Rattle.lg_grammar.specs.View.{tree_of}
 use Rattle.lg_grammar.proofs.ResultLemmas.{err_end}

@@ -1,4 +1,4 @@
-use Rattle.lg_grammar.specs.Reading.{tokens_of}
+use Rattle.lg_grammar.specs.Token.{tokens_of}
 use Rattle.lg_grammar.specs.Parsing.{EndsStatement}
 use Rattle.lg_grammar.specs.View.{tree_of}
 use Rattle.lg_grammar.proofs.ResultLemmas.{err_end}

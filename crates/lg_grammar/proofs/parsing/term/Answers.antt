@@ -9,7 +9,7 @@ use Rattle.lg_grammar.proofs.parsing.term.Goals as goal
 
 pub returns-in-Some-clause-found : goal.returns-in-Some-clause-found
 returns-in-Some-clause-found c =
-    subst (λ (e : Tree). Finds term (left c.args.line.now c.args.tokens.now c.args.place) (left c.args.line.now c.args.tokens.now c.in-Some.next) e) (sym (tree-Full c.in-Some.extent c.in-Some.value)) (finds_full _ _ c.in-Some.extent c.in-Some.value c.in-Some.ensures.found)
+    subst (λ (e : Tree). Finds term (left c.args.line.now c.args.tokens.now c.args.place) (left c.args.line.now c.args.tokens.now c.in-Some.next) e) (sym (tree-Full c.in-Some.extent c.in-Some.value)) (finds_full _ _ c.in-Some.extent c.in-Some.value c.in-Some.ensures.extent c.in-Some.ensures.value c.in-Some.ensures.found)
 
 pub returns-in-Some-clause-level : goal.returns-in-Some-clause-level
 returns-in-Some-clause-level c = sym (ap height (tree-Full c.in-Some.extent c.in-Some.value))
