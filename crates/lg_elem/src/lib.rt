@@ -4,6 +4,7 @@
 mod division;
 mod dtype;
 mod elem;
+pub mod examples;
 mod implementations;
 pub mod kernels;
 mod kinds;
