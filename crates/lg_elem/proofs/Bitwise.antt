@@ -1,8 +1,8 @@
 -- Products and bits of elements, which the code computes at 128 bits.
-use Rattle.std.proofs.Common.{◌≡◌, ℕ, zero, suc, ◌+◌, ◌-◌, ◌*◌, ◌%◌, ◌^◌, ◌<◌, ◌≤◌, refl, sym, ap, subst, ◌∙◌, arith, ℤ, pos, negsuc, neg_ℤ, ◌+ℤ◌, ◌*ℤ◌, ◌≤ℤ◌, ◌<ℤ◌}
+use Rattle.std.proofs.Common.{◌≡◌, ℕ, suc, ◌+◌, ◌-◌, ◌%◌, ◌^◌, ◌<◌, ◌≤◌, refl, sym, ap, subst, ◌∙◌, arith, ℤ, pos, negsuc, ◌*ℤ◌}
 use Rattle.std.proofs.lemmas.Int.{ints, wrapping_mul_is, fits_signed_mul, fits_signed_from_abs, int_rem_euclid_is}
 use Rattle.std.proofs.lemmas.Nat.{pow_pos, pow-add, and_mod, or_mod, xor_mod, and_le_l, or_lt, xor_lt}
-use Rattle.std.specs.Int.{w128, int_rem_euclid, int_wrapping_mul}
+use Rattle.std.specs.Int.{w128, int_wrapping_mul}
 use Rattle.std.specs.Prelude.{unsigned_abs, FitsSigned, bit_and, bit_or, bit_xor}
 use mir.Val.{to_z, of_z}
 use Rattle.lg_elem.specs.declared.dtype.DType.{DType}

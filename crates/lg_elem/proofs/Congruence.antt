@@ -1,14 +1,14 @@
 -- What is wrapped to a wider number of bits first, and then to the type.
-use Rattle.std.proofs.Common.{◌≡◌, ℕ, zero, suc, ◌+◌, ◌-◌, ◌*◌, ◌%◌, ◌^◌, ◌<◌, ◌≤◌, ltb, Bool, true, false, refl, sym, ap, subst, ◌∙◌, ◌⊎◌, ⊎_elim, arith, ℤ, pos, negsuc, neg_ℤ, ◌+ℤ◌, ◌-ℤ◌, ◌*ℤ◌, ◌≤ℤ◌, ◌<ℤ◌}
-use Rattle.std.proofs.lemmas.Int.{ints, int_wrap_fits, int_rem_euclid_is}
+use Rattle.std.proofs.Common.{◌≡◌, ℕ, suc, ◌+◌, ◌-◌, ◌%◌, ◌^◌, ◌<◌, ◌≤◌, ltb, Bool, true, false, refl, ap, subst, ◌∙◌, arith, ℤ, pos, negsuc, ◌+ℤ◌, ◌*ℤ◌}
+use Rattle.std.proofs.lemmas.Int.{ints, int_wrap_fits}
 use Rattle.std.proofs.lemmas.Nat.{pow_pos, pow-add}
-use Rattle.std.specs.Int.{Width, w8, w16, w32, w64, w128, int_rem_euclid, int_wrap}
-use Rattle.std.specs.Prelude.{unsigned_abs, FitsSigned}
+use Rattle.std.specs.Int.{Width, w8, w16, w32, w64, w128, int_wrap}
+use Rattle.std.specs.Prelude.{FitsSigned}
 use mir.Val.{to_z, of_z, hbits}
 use mir.Val as values
 use Rattle.lg_elem.specs.declared.dtype.DType.{DType}
 use Rattle.lg_elem.specs.declared.dtype.DType.TheVariants.{Bool as Truth, Int8, Int16, Int32, Int64, UInt8, UInt16, UInt32, UInt64}
-use Rattle.lg_elem.specs.Types.{IsNumber, wrap, bits}
+use Rattle.lg_elem.specs.Types.{wrap, bits}
 use Rattle.lg_elem.specs.Laws.{IsCongruent}
 use Rattle.lg_elem.proofs.Products.{sum_times, times_product}
 use Rattle.lg_elem.proofs.WrapLemmas.{rem_congruent, wrap_congruent, wrap_one, wrap_fits}

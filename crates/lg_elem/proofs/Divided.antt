@@ -1,5 +1,5 @@
 -- Division of elements, by that of a machine integer which holds their numbers.
-use Rattle.std.proofs.Common.{◌≡◌, ℕ, zero, suc, ◌+◌, ◌/◌, ◌^◌, ◌<◌, ◌≤◌, refl, sym, ap, subst, ◌∙◌, ◌⊎◌, ⊎_elim, arith, ℤ, pos, negsuc}
+use Rattle.std.proofs.Common.{◌≡◌, zero, suc, ◌≤◌, refl, sym, ap, subst, ◌∙◌, ◌⊎◌, ⊎_elim, arith, ℤ, pos, negsuc}
 use Rattle.std.proofs.lemmas.Int.{ints, to_z-of_z, fits_signed_from_abs}
 use Rattle.std.proofs.Math.Nat.{div-le_self}
 use Rattle.std.specs.Int.{Width, w32, w64, w128}

@@ -1,12 +1,12 @@
 -- The quotient rounded down, from that of the machine, which is rounded to 0.
-use Rattle.std.proofs.Common.{◌≡◌, ℕ, zero, suc, ◌+◌, ◌-◌, ◌*◌, ◌/◌, ◌%◌, ◌^◌, ◌<◌, ◌≤◌, true, false, refl, sym, ap, ◌∙◌, arith, ℤ, pos, negsuc, neg_ℤ, ◌+ℤ◌, ◌-ℤ◌, ◌*ℤ◌, ◌≤ℤ◌, ◌<ℤ◌}
+use Rattle.std.proofs.Common.{◌≡◌, ℕ, zero, suc, ◌+◌, ◌-◌, ◌*◌, ◌/◌, ◌%◌, ◌<◌, false, refl, sym, ap, ◌∙◌, arith, ℤ, pos, negsuc, ◌+ℤ◌, ◌-ℤ◌, ◌*ℤ◌, ◌≤ℤ◌, ◌<ℤ◌}
 use Rattle.std.proofs.lemmas.Int.{ints, quot-rem}
 use Rattle.std.proofs.lemmas.Bool.Decides.{nat_tests}
 use Rattle.std.proofs.lemmas.Nat.{div-add-mod', div-mul-add, mod_below}
 use Rattle.std.specs.Int.{int_div_euclid}
 use Rattle.std.specs.Prelude.{int_div, int_rem}
 use lib.IntN.{*ℤ_comm}
-use Rattle.lg_elem.specs.Operations.{is_zero, is_negative, floor_div}
+use Rattle.lg_elem.specs.Operations.{is_zero, floor_div}
 use Rattle.lg_elem.specs.Division.{floored}
 use Rattle.lg_elem.proofs.Products.{difference_times}
 

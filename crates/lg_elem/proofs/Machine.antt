@@ -1,14 +1,13 @@
 -- Division of machine integers of some width, as the code's tests and the machine's quotient and
 -- rest say it.
-use Rattle.std.proofs.Common.{◌≡◌, ℕ, zero, suc, ◌+◌, ◌-◌, ◌*◌, ◌/◌, ◌%◌, ◌^◌, ◌<◌, ◌≤◌, true, false, refl, sym, ap, subst, ◌∙◌, arith, ℤ, pos, negsuc, neg_ℤ, ◌+ℤ◌, ◌-ℤ◌, ◌*ℤ◌, ◌≤ℤ◌, ◌<ℤ◌}
-use Rattle.std.proofs.lemmas.Int.{ints, to_z-of_z, wrapping_sub_is, int_wrap-add_left, fits_signed_from_abs}
-use Rattle.std.proofs.lemmas.Bool.Decides.{nat_tests}
+use Rattle.std.proofs.Common.{◌≡◌, zero, suc, ◌%◌, ◌^◌, ◌<◌, ◌≤◌, true, false, refl, sym, ap, subst, ◌∙◌, arith, ℤ, pos, negsuc, ◌+ℤ◌, ◌-ℤ◌, ◌<ℤ◌}
+use Rattle.std.proofs.lemmas.Int.{ints, to_z-of_z, wrapping_sub_is, int_wrap-add_left}
 use Rattle.std.proofs.Math.Nat.{mod-eq_of_lt, div-le_self}
 use Rattle.std.specs.Int.{Width, int_wrap, int_rem_euclid, int_wrapping_sub, int_wrapping_div}
 use Rattle.std.specs.Prelude.{unsigned_abs, FitsSigned, int_lt, int_div, int_rem}
 use mir.Val.{to_z, of_z, hbits}
 use mir.Val as values
-use Rattle.lg_elem.specs.Operations.{is_zero, floor_div}
+use Rattle.lg_elem.specs.Operations.{is_zero}
 use Rattle.lg_elem.specs.Division.{quotient_of, remainder_of}
 use Rattle.lg_elem.proofs.Congruence.{half}
 use Rattle.lg_elem.proofs.Floors.{IsExact, IsLess, floor_exact, floor_less, rest_exact, rest_less}

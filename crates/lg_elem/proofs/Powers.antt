@@ -1,8 +1,7 @@
 -- Wrapping on the way to a product or a power changes nothing; powers by squaring.
-use Rattle.std.proofs.Common.{◌≡◌, ℕ, zero, suc, ◌+◌, ◌*◌, ◌/◌, ◌%◌, ◌^◌, ◌<◌, true, false, ◌==◌, if◌then◌else◌, refl, sym, ap, ◌∙◌, arith, ℤ, pos, negsuc, ◌+ℤ◌, ◌*ℤ◌}
+use Rattle.std.proofs.Common.{◌≡◌, ℕ, zero, suc, ◌+◌, ◌/◌, ◌%◌, ◌^◌, ◌<◌, ◌==◌, if◌then◌else◌, refl, sym, ap, ◌∙◌, arith, ℤ, pos, negsuc, ◌+ℤ◌, ◌*ℤ◌}
 use Rattle.std.proofs.lemmas.Int.{ints}
-use Rattle.std.proofs.lemmas.Bool.Decides.{nat_tests}
-use lib.IntN.{*ℤ_comm, zero-*ℤ}
+use lib.IntN.{*ℤ_comm}
 use Rattle.lg_elem.specs.declared.dtype.DType.{DType}
 use Rattle.lg_elem.specs.declared.dtype.DType.TheVariants.{Bool as Truth}
 use Rattle.lg_elem.specs.Types.{wrap, bits}

@@ -1,17 +1,17 @@
 -- Shifts of elements, which the code computes at 128 bits.
-use Rattle.std.proofs.Common.{◌≡◌, ℕ, zero, suc, ◌+◌, ◌-◌, ◌*◌, ◌/◌, ◌%◌, ◌^◌, ◌<◌, ◌≤◌, Bool, true, false, refl, sym, ap, subst, ◌∙◌, arith, ℤ, pos, negsuc, neg_ℤ, ◌*ℤ◌}
-use Rattle.std.proofs.lemmas.Int.{ints, wrapping_mul_is, fits_signed_mul, fits_signed_from_abs, to_z_pos, to_z-of_z}
+use Rattle.std.proofs.Common.{◌≡◌, ℕ, ◌-◌, ◌*◌, ◌%◌, ◌^◌, ◌<◌, ◌≤◌, true, refl, sym, ap, subst, ◌∙◌, arith, ℤ, pos, negsuc, ◌*ℤ◌}
+use Rattle.std.proofs.lemmas.Int.{wrapping_mul_is, fits_signed_mul, fits_signed_from_abs, to_z_pos, to_z-of_z}
 use Rattle.std.proofs.lemmas.Bool.Decides.{nat_tests}
-use Rattle.std.proofs.lemmas.Nat.{pow_pos, pow_below}
+use Rattle.std.proofs.lemmas.Nat.{pow_pos}
 use Rattle.std.proofs.Math.Nat.{mod-eq_of_lt, pow-le-pow_right}
-use Rattle.std.specs.Int.{w128, int_wrapping_mul, int_div_euclid}
+use Rattle.std.specs.Int.{w128}
 use Rattle.std.specs.Prelude.{unsigned_abs, FitsSigned, int_lt, int_le}
 use lib.Signed.{shr_z, mag_shr}
 use mir.Val.{to_z, of_z}
 use Rattle.lg_elem.specs.declared.dtype.DType.{DType}
 use Rattle.lg_elem.specs.declared.kinds.Binary.TheVariants.{Shl, Shr}
 use Rattle.lg_elem.specs.Types.{IsNumber, wrap, bits}
-use Rattle.lg_elem.specs.Operations.{is_shift, is_negative, floor_div, value_of}
+use Rattle.lg_elem.specs.Operations.{is_shift, floor_div, value_of}
 use Rattle.lg_elem.proofs.Congruence.{bits_most, wrapped_first}
 use Rattle.lg_elem.proofs.Bitwise.{abs_most, number_fits}
 

@@ -1,4 +1,4 @@
-use Rattle.std.proofs.Common.{◌<◌, arith}
+use Rattle.std.proofs.Common.{arith}
 use Rattle.std.specs.Int.{w32}
 use Rattle.lg_elem.proofs.Machine.{Rest, quotient_exact, quotient_less, exact_below, exact_above, less_below, less_above}
 use Rattle.lg_elem.proofs.division.quotient_i32.Goals as goal

@@ -1,5 +1,3 @@
-use Rattle.std.proofs.Common.{arith}
-use Rattle.std.proofs.lemmas.Grind.{common_steps}
 use Rattle.lg_elem.proofs.Floors.{unsigned_floor}
 use Rattle.lg_elem.proofs.division.quotient_u64.Goals as goal
 

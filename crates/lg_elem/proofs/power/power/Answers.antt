@@ -3,7 +3,7 @@ use Rattle.std.proofs.lemmas.Int.{to_z-of_z}
 use Rattle.std.specs.Int.{w128}
 use Rattle.lg_elem.specs.Types.{wrap}
 use Rattle.lg_elem.specs.Operations.{power_of}
-use Rattle.lg_elem.proofs.Powers.{start, step, end}
+use Rattle.lg_elem.proofs.Powers.{step, end}
 use Rattle.lg_elem.proofs.power.power.Goals as goal
 
 pub loop-left-preserved : goal.loop-left-preserved

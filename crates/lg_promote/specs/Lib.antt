@@ -1,0 +1,4 @@
+pub mod Kinds
+pub mod Promotion
+pub mod Literals
+pub mod Laws
