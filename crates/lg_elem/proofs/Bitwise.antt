@@ -62,7 +62,8 @@ truth_bits (negsuc n) f = absurd (omega (arith, ints))
 truth_cast : (n : ℕ) → wrap Truth (to_z w128 n) ≡ wrap Truth (pos n)
 truth_cast n = grind (arith, ints)
 
--- an operation that keeps low bits apart from the others gives the same at 128 bits, at first wrapped
+-- an operation that keeps low bits apart from the others gives the same at 128 bits, at first
+-- wrapped
 bitwise : (f : ℕ → ℕ → ℕ) → ((a b k : ℕ) → f a b % 2 ^ k ≡ f (a % 2 ^ k) (b % 2 ^ k)) → (t : DType) (x y : ℤ) → IsNumber t x → IsNumber t y → f (of_z w128 x) (of_z w128 y) < 2 ^ 128 → wrap t (to_z w128 (f (of_z w128 x) (of_z w128 y))) ≡ wrap t (pos (f (bits_in t x) (bits_in t y)))
 bitwise f low Truth x y i j h =
     truth_cast (f (of_z w128 x) (of_z w128 y)) ∙ (ap (λ a. wrap Truth (pos (f a (of_z w128 y)))) (truth_bits x i) ∙ ap (λ b. wrap Truth (pos (f (bits_in Truth x) b))) (truth_bits y j))

@@ -174,7 +174,8 @@ impl Kernel for BitXor {
     }
 }
 
-/// The product with 2 to the other number, where that is from 0 to below the number of bits; else 0.
+/// The product with 2 to the other number, where that is from 0 to below the number of bits; else
+/// 0.
 pub struct Shl;
 
 impl Kernel for Shl {

@@ -1,4 +1,5 @@
--- Which token stands in front of bytes: found by its first byte, the run of word bytes, or the longest operator.
+-- Which token stands in front of bytes: found by its first byte, the run of word bytes, or the
+-- longest operator.
 use Rattle.std.proofs.Common.{◌≡◌, ℕ, ◌+◌, ◌<◌, ◌≤◌, Bool, true, false, cond, Option, None, Some, IfNone, inl, inr, zero, suc, List, [], ◌∷◌, ◌++◌, length, get_or, take, drop, decimal, refl, sym, ap, ◌∙◌, subst, arith, IsTrue, le_trans, le_antisymm, zero-le, one-add, take-append-drop}
 use Rattle.std.specs.List.{AllByRecursion, prefix_len}
 use Rattle.std.proofs.lemmas.List.{length-take-le}

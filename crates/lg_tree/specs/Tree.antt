@@ -55,8 +55,8 @@ pub record LineTree : Type 0 where
   pub statement : StatementTree
 
 -- A number, a truth value or a name has height 0. Any other node, a list among them, is one higher
--- than its highest part, and 1 where it has none. An extent and an expression in a list are no nodes
--- of their own
+-- than its highest part, and 1 where it has none. An extent and an expression in a list are no
+-- nodes of their own
 abbrev mutual
   pub height : Tree → ℕ
   height (number n) = 0
