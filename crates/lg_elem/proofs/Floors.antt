@@ -1,13 +1,14 @@
 -- The quotient rounded down, from that of the machine, which is rounded to 0.
-use Rattle.std.proofs.Common.{◌≡◌, ℕ, zero, suc, ◌+◌, ◌-◌, ◌*◌, ◌/◌, ◌%◌, ◌<◌, false, refl, sym, ap, ◌∙◌, arith, ℤ, pos, negsuc, ◌+ℤ◌, ◌-ℤ◌, ◌*ℤ◌, ◌≤ℤ◌, ◌<ℤ◌}
-use Rattle.std.proofs.lemmas.Int.{ints, quot-rem}
+use Rattle.std.proofs.Common.{◌≡◌, ℕ, zero, suc, ◌+◌, ◌-◌, ◌*◌, ◌/◌, ◌%◌, ◌<◌, false, refl, sym, ap, ◌∙◌, arith, ℤ, pos, negsuc, ◌+ℤ◌, ◌-ℤ◌, ◌*ℤ◌, ◌≤ℤ◌, ◌<ℤ◌, ◌⊎◌, inl, inr, ⊎_elim}
+use Rattle.std.proofs.lemmas.Int.{ints, quot-rem, rem_below, by_lt_z}
 use Rattle.std.proofs.lemmas.Bool.Decides.{nat_tests}
 use Rattle.std.proofs.lemmas.Nat.{div-add-mod', div-mul-add, mod_below}
 use Rattle.std.specs.Int.{int_div_euclid}
-use Rattle.std.specs.Prelude.{int_div, int_rem}
+use Rattle.std.specs.Prelude.{int_div, int_rem, unsigned_abs}
 use lib.IntN.{*ℤ_comm}
 use Rattle.lg_elem.specs.Operations.{is_zero, floor_div}
 use Rattle.lg_elem.specs.Division.{floored}
+use Rattle.lg_elem.specs.Laws.{RestsAbove, RestsBelow}
 use Rattle.lg_elem.proofs.Products.{difference_times}
 
 -- ---- the next number's quotient
@@ -97,3 +98,26 @@ pub rest_less : (x y : ℤ) → is_zero y ≡ false → IsLess x y → x -ℤ (y
 rest_less x y h r =
     let e = (ap (λ q. y *ℤ q) (floor_less x y h r) ∙ *ℤ_comm y (int_div x y -ℤ pos 1)) ∙ difference_times (int_div x y) (pos 1) y in
     omega (arith, ints, e, quot-rem x y, one_times y)
+
+-- ---- where that lies
+
+not_zero : (y : ℤ) → (pos 0 <ℤ y) ⊎ (y <ℤ pos 0) → is_zero y ≡ false
+not_zero (pos zero) h = absurd (⊎_elim (λ a. omega (arith, ints)) (λ b. omega (arith, ints)) h)
+not_zero (pos (suc n)) h = refl
+not_zero (negsuc n) h = refl
+
+pub rests_above : RestsAbove
+rests_above x y h =
+    let n = not_zero y (inl h) in
+    let small : unsigned_abs (int_rem x y) < unsigned_abs y = rem_below x y (omega (arith, ints)) in
+    by_lt_z (int_rem x y) (pos 0)
+    (λ less. let e = rest_less x y n (λ k. less, λ k. absurd (omega (arith, ints))) in (omega (arith, ints), omega (arith, ints)))
+    (λ exact. let e = rest_exact x y n (λ k. exact, λ k. absurd (omega (arith, ints))) in (omega (arith, ints), omega (arith, ints)))
+
+pub rests_below : RestsBelow
+rests_below x y h =
+    let n = not_zero y (inr h) in
+    let small : unsigned_abs (int_rem x y) < unsigned_abs y = rem_below x y (omega (arith, ints)) in
+    by_lt_z (pos 0) (int_rem x y)
+    (λ less. let e = rest_less x y n (λ k. absurd (omega (arith, ints)), λ k. less) in (omega (arith, ints), omega (arith, ints)))
+    (λ exact. let e = rest_exact x y n (λ k. absurd (omega (arith, ints)), λ k. exact) in (omega (arith, ints), omega (arith, ints)))

@@ -49,8 +49,11 @@ pub same_power : (t : DType) (a x : ℤ) (n : ℕ) → wrap t a ≡ wrap t x →
 same_power t a x zero e = refl
 same_power t a x (suc n) e = same_times t a x (power_of a n) (power_of x n) e (same_power t a x n e)
 
-pub power_wrapped : (t : DType) (x : ℤ) (n : ℕ) → wrap t (power_of (wrap t x) n) ≡ wrap t (power_of x n)
+power_wrapped : (t : DType) (x : ℤ) (n : ℕ) → wrap t (power_of (wrap t x) n) ≡ wrap t (power_of x n)
 power_wrapped t x n = same_power t (wrap t x) x n (wrap_twice t x)
+
+pub power_from : (t : DType) (b x : ℤ) (n : ℕ) → x ≡ wrap t b → wrap t (power_of x n) ≡ wrap t (power_of b n)
+power_from t b x n e = ap (λ x. wrap t (power_of x n)) e ∙ power_wrapped t b n
 
 power_of_square : (b : ℤ) (k : ℕ) → power_of (b *ℤ b) k ≡ power_of b (k + k)
 power_of_square b zero = refl

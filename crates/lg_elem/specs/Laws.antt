@@ -1,8 +1,9 @@
 -- What wrapping is, in the words of whole numbers.
-use Rattle.std.specs.Prelude.{◌≡◌, ℕ, ◌^◌, ℤ, pos, ◌+ℤ◌, ◌*ℤ◌}
+use Rattle.std.specs.Prelude.{◌≡◌, ℕ, ◌^◌, ℤ, pos, ◌+ℤ◌, ◌*ℤ◌, ◌-ℤ◌, ◌≤ℤ◌, ◌<ℤ◌}
 use Rattle.lg_elem.specs.declared.dtype.DType.{DType}
 use Rattle.lg_elem.specs.declared.dtype.DType.TheVariants.{Bool as Truth}
 use Rattle.lg_elem.specs.Types.{bits, IsNumber, wrap}
+use Rattle.lg_elem.specs.Operations.{floor_div}
 
 -- x and y differ by a multiple of m
 abbrev pub IsCongruent : ℕ → ℤ → ℤ → Type 0
@@ -24,3 +25,15 @@ WrapsByModulus = (t : DType) (x : ℤ) → ¬ (t ≡ Truth) → IsCongruent (2 ^
 abbrev pub HasNoOther : Type 0
 HasNoOther = (t : DType) (x y : ℤ) → ¬ (t ≡ Truth) → IsNumber t y → IsCongruent (2 ^ bits t) x y
     → y ≡ wrap t x
+
+-- what the quotient of x by y, rounded down, leaves of x
+abbrev pub rest_of : ℤ → ℤ → ℤ
+rest_of x y = x -ℤ (y *ℤ floor_div x y)
+
+-- it lies from 0 to below a divisor above 0,
+abbrev pub RestsAbove : Type 0
+RestsAbove = (x y : ℤ) → pos 0 <ℤ y → (pos 0 ≤ℤ rest_of x y) × (rest_of x y <ℤ y)
+
+-- and from 0 down to above one below 0
+abbrev pub RestsBelow : Type 0
+RestsBelow = (x y : ℤ) → y <ℤ pos 0 → (rest_of x y ≤ℤ pos 0) × (y <ℤ rest_of x y)

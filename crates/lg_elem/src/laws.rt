@@ -1,5 +1,5 @@
 ghost use Rattle.std.specs.Prelude.{◌≡◌, ℤ, pos};
-ghost use Rattle.lg_elem.specs.Laws.{WrapsIntoRange, KeepsNumbers, WrapsByModulus, HasNoOther};
+ghost use Rattle.lg_elem.specs.Laws.{WrapsIntoRange, KeepsNumbers, WrapsByModulus, HasNoOther, RestsAbove, RestsBelow};
 ghost use Rattle.lg_elem.specs.Types.{wrap};
 ghost use Rattle.lg_elem.specs.declared.dtype.DType.TheVariants.{Bool as Truth};
 
@@ -29,4 +29,11 @@ pub fn one_number()
     ensures zero { wrap Truth (pos 0) ≡ pos 0 }
     ensures other { (x : ℤ) → ¬ (x ≡ pos 0) → wrap Truth x ≡ pos 1 }
     ensures same { KeepsNumbers }
+{}
+
+/// What the quotient rounded down leaves is 0, or has the divisor's sign and is nearer to 0 than
+/// the divisor (NumPy's reference, "numpy.floor_divide" and "numpy.remainder").
+pub fn floors()
+    ensures above { RestsAbove }
+    ensures below { RestsBelow }
 {}
