@@ -26,10 +26,13 @@ pub trait Elem: Copy {
     fn wrap(x: i128) -> Self
         ensures { number result ≡ wrap DTYPE x };
 
-    /// The sum, wrapped to the type. It is `wrap` of the sum of the numbers, by the machine's own
-    /// arithmetic; for `Bool` the or (NumPy's reference, "Math operations").
-    fn wrapping_add(self, other: Self) -> Self
-        ensures { number result ≡ wrap DTYPE (number self +ℤ number other) };
+    /// The sum, wrapped to the type; for `Bool` the or (NumPy's reference, "Math operations").
+    #[inline]
+    final fn wrapping_add(self, other: Self) -> Self
+        ensures { number result ≡ wrap DTYPE (number self +ℤ number other) }
+    {
+        Self::wrap(self.value() + other.value())
+    }
 
     /// An element is told by its number.
     ghost distinct: { (x y : Self) → number x ≡ number y → x ≡ y };

@@ -7,7 +7,6 @@ ghost use Rattle.lg_elem.specs.declared.dtype.DType.TheVariants.{Bool as Truth, 
 use crate::wrapping::{wrapped_signed, wrapped_unsigned};
 use crate::{DType, Elem};
 
-// The number of a truth value is 0 or 1, so the sum of two is not 0 exactly where their or is true.
 impl Elem for bool {
     ghost DTYPE = { Truth };
 
@@ -25,11 +24,6 @@ impl Elem for bool {
     #[inline]
     fn wrap(x: i128) -> Self {
         x != 0
-    }
-
-    #[inline]
-    fn wrapping_add(self, other: Self) -> Self {
-        self | other
     }
 }
 
@@ -51,11 +45,6 @@ impl Elem for i8 {
     fn wrap(x: i128) -> Self {
         wrapped_signed(x, 8) as i8
     }
-
-    #[inline]
-    fn wrapping_add(self, other: Self) -> Self {
-        i8::wrapping_add(self, other)
-    }
 }
 
 impl Elem for i16 {
@@ -75,11 +64,6 @@ impl Elem for i16 {
     #[inline]
     fn wrap(x: i128) -> Self {
         wrapped_signed(x, 16) as i16
-    }
-
-    #[inline]
-    fn wrapping_add(self, other: Self) -> Self {
-        i16::wrapping_add(self, other)
     }
 }
 
@@ -101,11 +85,6 @@ impl Elem for i32 {
     fn wrap(x: i128) -> Self {
         wrapped_signed(x, 32) as i32
     }
-
-    #[inline]
-    fn wrapping_add(self, other: Self) -> Self {
-        i32::wrapping_add(self, other)
-    }
 }
 
 impl Elem for i64 {
@@ -125,11 +104,6 @@ impl Elem for i64 {
     #[inline]
     fn wrap(x: i128) -> Self {
         wrapped_signed(x, 64) as i64
-    }
-
-    #[inline]
-    fn wrapping_add(self, other: Self) -> Self {
-        i64::wrapping_add(self, other)
     }
 }
 
@@ -151,11 +125,6 @@ impl Elem for u8 {
     fn wrap(x: i128) -> Self {
         wrapped_unsigned(x, 8) as u8
     }
-
-    #[inline]
-    fn wrapping_add(self, other: Self) -> Self {
-        u8::wrapping_add(self, other)
-    }
 }
 
 impl Elem for u16 {
@@ -175,11 +144,6 @@ impl Elem for u16 {
     #[inline]
     fn wrap(x: i128) -> Self {
         wrapped_unsigned(x, 16) as u16
-    }
-
-    #[inline]
-    fn wrapping_add(self, other: Self) -> Self {
-        u16::wrapping_add(self, other)
     }
 }
 
@@ -201,11 +165,6 @@ impl Elem for u32 {
     fn wrap(x: i128) -> Self {
         wrapped_unsigned(x, 32) as u32
     }
-
-    #[inline]
-    fn wrapping_add(self, other: Self) -> Self {
-        u32::wrapping_add(self, other)
-    }
 }
 
 impl Elem for u64 {
@@ -225,10 +184,5 @@ impl Elem for u64 {
     #[inline]
     fn wrap(x: i128) -> Self {
         wrapped_unsigned(x, 64) as u64
-    }
-
-    #[inline]
-    fn wrapping_add(self, other: Self) -> Self {
-        u64::wrapping_add(self, other)
     }
 }
