@@ -1,9 +1,8 @@
 -- What the lines of a script spell, from its front.
 use Rattle.std.proofs.Common.{◌≡◌, ℕ, ◌+◌, ◌≤◌, ◌⊎◌, inl, inr, List, [], ◌∷◌, ◌++◌, length, refl, sym, ap, ◌∙◌, subst, arith, length-append, append_assoc, append-nil}
-use Rattle.std.proofs.lemmas.List.{length-map}
 use Rattle.lg_lex.specs.Line.{Reads, ReadsNone}
 use Rattle.lg_lex.proofs.LineLemmas.{reads_once}
-use Rattle.lg_grammar.specs.Token.{Token, token_of, tokens_of}
+use Rattle.lg_grammar.specs.Token.{tokens_of}
 use Rattle.lg_grammar.specs.Tree.{StatementTree, LineTree}
 use Rattle.lg_grammar.specs.Grammar.{SpellsStatement}
 use Rattle.lg_grammar.specs.Script.{lines_of, IsIndented, SpellsLine, IsSkipped, SpellsLines, Spells, IsBad, IsFirstBad}

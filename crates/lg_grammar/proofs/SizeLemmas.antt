@@ -1,5 +1,5 @@
 -- A script has no more nodes than bytes.
-use Rattle.std.proofs.Common.{◌≡◌, ℕ, suc, ◌+◌, ◌<◌, ◌≤◌, Bool, true, false, cond, inl, inr, List, [], ◌∷◌, ◌++◌, length, sum_by, sym, ap, ◌∙◌, subst, arith, eqb, le_trans, le_refl, zero-le, length-append}
+use Rattle.std.proofs.Common.{◌≡◌, ℕ, suc, ◌+◌, ◌≤◌, Bool, true, false, cond, inl, inr, List, [], ◌∷◌, length, sum_by, sym, ap, ◌∙◌, subst, arith, eqb, le_trans, le_refl, zero-le, length-append}
 use Rattle.std.specs.List.{slice_split, onto_first}
 use Rattle.std.proofs.lemmas.List.Sums.{sum_by-cons}
 use Rattle.lg_grammar.specs.Token.{Token, token_of, tokens_of, sign}

@@ -39,4 +39,5 @@ pub data SpellsStatement : List Token → StatementTree → Type 0 where
       → height e ≤ MAX_HEIGHT
       → SpellsStatement (word w ∷ sign Equal ∷ ts) (bind w e)
   a_print : {ts : List Token} {e : Tree} → SpellsTree sum ts e → height e ≤ MAX_HEIGHT
-      → SpellsStatement (word (codes "print") ∷ sign LeftParenthesis ∷ (ts ++ (sign RightParenthesis ∷ []))) (print e)
+      → SpellsStatement (word (codes "print") ∷ sign LeftParenthesis
+      ∷ (ts ++ (sign RightParenthesis ∷ []))) (print e)

@@ -9,7 +9,8 @@ use Rattle.lg_grammar.specs.declared.parsing.ParseEnd.TheVariants.{Syntax, NoMem
 
 -- the tokens of a full array
 abbrev pub full_tokens : ℕ → ℕ → List Token
-full_tokens n x = word (codes "full") ∷ sign LeftParenthesis ∷ number n ∷ sign Comma ∷ number x ∷ sign RightParenthesis ∷ []
+full_tokens n x = word (codes "full") ∷ sign LeftParenthesis ∷ number n ∷ sign Comma ∷ number x
+    ∷ sign RightParenthesis ∷ []
 
 -- the tokens in front are the form and mean the tree, and the next ones stand behind them
 pub record Finds (form : Form) (from next : List Token) (e : Tree) : Type 0 where

@@ -6,7 +6,7 @@ use Rattle.std.specs.List.{AllByRecursion}
 use Rattle.std.specs.Str.Parse.{AllDigits, digits_value, digits_value_after}
 use Rattle.std.proofs.lemmas.Str.Parse.{IsNumeralModel, numerals_by_value, tells_digits, digit_from_value, digit_at}
 use Rattle.std.proofs.lemmas.Int.Digits.{digits_more, digits_value_more}
-use Rattle.std.proofs.lemmas.Fmt.{decimal_is_IsNumeral, first_decimal, decimal_digit, decimal-digits_value, decimal_injective}
+use Rattle.std.proofs.lemmas.Fmt.{decimal_is_IsNumeral, first_decimal, decimal_digit, decimal-digits_value}
 use Rattle.std.proofs.lemmas.Bool.{cases_eq, or_right, both_ways}
 use Rattle.std.proofs.lemmas.Bool.Decides.{nat_tests}
 use Rattle.lg_lex.specs.Bytes.{is_digit, is_word_byte, is_letter}
@@ -21,9 +21,6 @@ small n h = omega (arith, h)
 -- digits with no needless zero are what is written of their value
 pub decimal_back : (ds : List ℕ) → AllDigits 10 ds → 0 < length ds → (get_or ds 0 0 ≡ 48 → length ds ≡ 1) → digits_value 10 ds ≤ MAX_NUMBER → decimal (digits_value 10 ds) ≡ ds
 decimal_back ds digits some zero low = decimal-digits_value own ds digits some zero (small (digits_value 10 ds) low)
-
-pub decimal_once : (m n : ℕ) → m ≤ MAX_NUMBER → n ≤ MAX_NUMBER → decimal m ≡ decimal n → m ≡ n
-decimal_once m n low high e = decimal_injective m n (small m low) (small n high) e
 
 pub decimal_digits : (n : ℕ) → n ≤ MAX_NUMBER → AllDigits 10 (decimal n)
 decimal_digits n low = (decimal_is_IsNumeral n (small n low)).0.1

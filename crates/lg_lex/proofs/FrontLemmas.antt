@@ -1,13 +1,13 @@
 -- Which token stands in front of bytes: found by its first byte, the run of word bytes, or the
 -- longest operator.
-use Rattle.std.proofs.Common.{◌≡◌, ℕ, ◌+◌, ◌<◌, ◌≤◌, Bool, true, false, cond, Option, None, Some, IfNone, inl, inr, zero, suc, List, [], ◌∷◌, ◌++◌, length, get_or, take, drop, decimal, refl, sym, ap, ◌∙◌, subst, arith, IsTrue, le_trans, le_antisymm, zero-le, one-add, take-append-drop}
-use Rattle.std.specs.List.{AllByRecursion, prefix_len}
+use Rattle.std.proofs.Common.{◌≡◌, ℕ, ◌+◌, ◌<◌, ◌≤◌, Bool, true, false, cond, Option, None, Some, IfNone, inl, inr, zero, suc, List, [], ◌∷◌, ◌++◌, length, get_or, take, drop, decimal, refl, sym, ap, ◌∙◌, subst, arith, le_antisymm, zero-le, one-add, take-append-drop}
+use Rattle.std.specs.List.{prefix_len}
 use Rattle.std.proofs.lemmas.List.{length-take-le}
 use Rattle.std.proofs.lemmas.Bool.{or_left, or_right, both_ways, cases_lt}
 use Rattle.std.proofs.lemmas.Bool.Decides.{nat_tests}
 use Rattle.lg_lex.specs.Bytes.{is_blank, is_letter, is_digit, is_word_byte}
 use Rattle.lg_lex.specs.Lexical.{IsWord, IsNumber, HasText, BeginsApart, EndsWhole, Begins, BeginsNone, MAX_NUMBER}
-use Rattle.lg_lex.specs.Operators.{three, two, one, three_at, two_at, one_at}
+use Rattle.lg_lex.specs.Operators.{three_at, two_at, one_at}
 use Rattle.lg_lex.specs.declared.tokens.TokenKind.{TokenKind}
 use Rattle.lg_lex.specs.declared.tokens.TokenKind.TheVariants.{Word, Number}
 use Rattle.lg_lex.proofs.DecimalLemmas.{decimal_digits, decimal_some, word_bytes_from_digits}
@@ -102,12 +102,6 @@ letter_word b l = or_left (is_letter b) (is_digit b) l
 
 digit_word : (b : ℕ) → is_digit b ≡ true → is_word_byte b ≡ true
 digit_word b d = or_right (is_letter b) (is_digit b) d
-
-digit_no_letter : (b : ℕ) → is_digit b ≡ true → is_letter b ≡ false
-digit_no_letter b h = grind (arith, nat_tests)
-
-word_no_letter : (b : ℕ) → is_word_byte b ≡ true → is_letter b ≡ false → is_digit b ≡ true
-word_no_letter b h l = grind (arith, nat_tests)
 
 run_zero : (b : ℕ) (bs : List ℕ) (n : ℕ) (t : Bool) → cond t (1 + n) 0 ≡ 0 → t ≡ false
 run_zero b bs n true e = absurd (omega arith)

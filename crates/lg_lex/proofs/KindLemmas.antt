@@ -2,7 +2,7 @@
 use Rattle.std.proofs.Common.{◌≡◌, ℕ, ◌<◌, ◌≤◌, Bool, true, false, cond, if◌then◌else◌, ◌&&◌, eqb, Option, None, Some, List, [], ◌∷◌, length, decimal, refl, sym, ap, ◌∙◌, subst, arith, IsTrue}
 use Rattle.std.specs.Str.Parse.{AllDigits}
 use Rattle.std.specs.List.{AllByRecursion}
-use Rattle.std.proofs.lemmas.Bool.{and_parts, or_parts, or_left, cond-true, cond-false, eqb-true}
+use Rattle.std.proofs.lemmas.Bool.{and_parts, or_parts, cond-true, cond-false, eqb-true}
 use Rattle.std.proofs.lemmas.Bool.Decides.{nat_tests}
 use Rattle.lg_lex.specs.Bytes.{is_blank, is_letter, is_digit, is_word_byte}
 use Rattle.lg_lex.specs.Lexical.{HasText, MAX_NUMBER}
@@ -51,7 +51,7 @@ use Rattle.lg_lex.specs.declared.tokens.TokenKind.TheVariants.{
   Colon,
   Dot,
 }
-use Rattle.lg_lex.proofs.DecimalLemmas.{decimal_digits, decimal_some, digit_is, word_bytes_from_digits}
+use Rattle.lg_lex.proofs.DecimalLemmas.{decimal_digits, decimal_some, digit_is}
 
 abbrev pub AllWordBytes : List ℕ → Type 0
 AllWordBytes bs = AllByRecursion (λ b. IsTrue (is_word_byte b)) bs

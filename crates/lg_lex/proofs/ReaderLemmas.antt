@@ -1,4 +1,5 @@
--- A reader that computes, by which worked examples are shown: what it answers holds of the line.
+-- A reader that computes, by which worked examples are shown: what it answers holds of the line. It
+-- is no part of the definition and none of the code.
 use Rattle.std.proofs.Common.{◌≡◌, ℕ, zero, suc, ◌+◌, ◌-◌, ◌<◌, ◌≤◌, Bool, true, false, ◌&&◌, eqb, ltb, leb, Option, None, Some, List, [], ◌∷◌, ◌++◌, length, get_or, take, drop, decimal, refl, sym, ap, ◌∙◌, subst, arith, zero-le, length-drop, inl, inr, not}
 use Rattle.std.specs.List.{prefix_len}
 use Rattle.std.specs.Str.Parse.{AllDigits, digits_value}

@@ -1,6 +1,5 @@
 use Rattle.std.proofs.Common.{◌≡◌, [], refl, sym, ◌∙◌, vec_len}
 use Rattle.std.proofs.lemmas.Bool.{eqb-false}
-use Rattle.lg_grammar.specs.Token.{tokens_of}
 use Rattle.lg_grammar.proofs.LineLemmas.{lexes_nothing, indented_nothing, unspelled_nothing, some_tokens}
 use Rattle.lg_grammar.proofs.scripts.read_line.Goals as goal
 

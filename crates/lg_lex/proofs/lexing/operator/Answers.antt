@@ -1,5 +1,4 @@
-use Rattle.std.proofs.Common.{◌≡◌, None, sym, ◌∙◌}
-use Rattle.lg_lex.specs.Operators.{three_at, two_at}
+use Rattle.std.proofs.Common.{sym, ◌∙◌}
 use Rattle.lg_lex.proofs.FrontLemmas.{three_begins, two_begins, one_begins, no_operator, if_none}
 use Rattle.lg_lex.proofs.lexing.operator.Goals as goal
 
