@@ -1,14 +1,14 @@
 //! The operations as types, for loops that are compiled for one operation each. Every operation has
 //! one body for all element types, which goes by whole numbers; compiled for a type, it is the
 //! machine's own arithmetic on that type.
-ghost use Rattle.std.specs.Prelude.{◌≡◌, Bool};
+ghost use Rattle.std.specs.Prelude.{◌≡◌, ◌<◌, Bool, true, pos};
 ghost use Rattle.lg_elem.specs.declared.kinds.Binary.{Binary};
 ghost use Rattle.lg_elem.specs.declared.kinds.Binary.TheVariants as kinds;
 ghost use Rattle.lg_elem.specs.declared.kinds.Unary.{Unary};
 ghost use Rattle.lg_elem.specs.declared.kinds.Unary.TheVariants as unary;
 ghost use Rattle.lg_elem.specs.declared.kinds.Compare.{Compare};
 ghost use Rattle.lg_elem.specs.declared.kinds.Compare.TheVariants as orders;
-ghost use Rattle.lg_elem.specs.Operations.{unary_of, value_of, compare_of};
+ghost use Rattle.lg_elem.specs.Operations.{is_shift, unary_of, value_of, compare_of};
 
 use crate::division::{
     quotient_i32, quotient_i64, quotient_u64, remainder_i32, remainder_i64, remainder_u64,
@@ -174,6 +174,25 @@ impl Kernel for BitXor {
     }
 }
 
+// Whether an element is a number of places by which its type is shifted.
+#[inline]
+fn is_place<T: Elem>(y: T) -> bool
+    ensures { result ≡ is_shift T.DTYPE (T.number y) }
+{
+    let by = y.value();
+    0 <= by && by < i128::from(T::DTYPE.bits())
+}
+
+// The number of places, where it is one. The rest is taken in any case, and before it is asked
+// whether it is one: so the shift is compiled to one of the type's own width.
+#[inline]
+fn place<T: Elem>(y: T) -> u32
+    ensures same { is_shift T.DTYPE (T.number y) ≡ true → pos result ≡ T.number y }
+    ensures few { result < 64 }
+{
+    y.value().rem_euclid(i128::from(T::DTYPE.bits())) as u32
+}
+
 /// The product with 2 to the other number, where that is from 0 to below the number of bits; else
 /// 0.
 pub struct Shl;
@@ -183,12 +202,8 @@ impl Kernel for Shl {
 
     #[inline]
     fn apply<T: Elem>(x: T, y: T) -> T {
-        let (by, bits) = (y.value(), T::DTYPE.bits());
-        if 0 <= by && by < i128::from(bits) {
-            T::wrap(x.value() << (by as u32 % bits))
-        } else {
-            T::wrap(0)
-        }
+        let shifted = T::wrap(x.value() << place(y));
+        if is_place(y) { shifted } else { T::wrap(0) }
     }
 }
 
@@ -201,9 +216,9 @@ impl Kernel for Shr {
 
     #[inline]
     fn apply<T: Elem>(x: T, y: T) -> T {
-        let (by, bits) = (y.value(), T::DTYPE.bits());
-        if 0 <= by && by < i128::from(bits) {
-            T::wrap(x.value() >> (by as u32 % bits))
+        let shifted = T::wrap(x.value() >> place(y));
+        if is_place(y) {
+            shifted
         } else if x.value() < 0 {
             T::wrap(-1)
         } else {
