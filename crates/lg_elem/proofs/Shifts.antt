@@ -43,5 +43,5 @@ shifted_right t x p q k f i shift e =
     let fits = number_fits t x f in
     let small : FitsSigned w128 (shr_z x (2 ^ k)) = record { sfits = omega (arith, mag_shr x (2 ^ k), fits.sfits) } in
     let here : wrap t (to_z w128 (of_z w128 (shr_z (to_z w128 (of_z w128 x)) (2 ^ k)))) ≡ value_of Shr t x (pos k)
-        = rw (to_z-of_z w128 x fits, to_z-of_z w128 (shr_z x (2 ^ k)) small, right_is x (2 ^ k) (pow_pos k), at) refl in
+    = rw (to_z-of_z w128 x fits, to_z-of_z w128 (shr_z x (2 ^ k)) small, right_is x (2 ^ k) (pow_pos k), at) refl in
     here ∙ (ap (λ x. value_of Shr t x (pos k)) i ∙ ap (value_of Shr t p) e)

@@ -126,17 +126,25 @@ fn rows<T: Elem>(rt: &impl Abort, rows: &[(i128, i128, [i128; 13])]) {
         Binary::Min,
         Binary::Max,
     ];
-    for &(x, y, numbers) in rows {
+    for row in rows {
+        let (x, y, numbers) = *row;
         for i in 0..13 {
             let (number, flag) = binary(ops[i], T::wrap(x), T::wrap(y));
             assert_eq!(rt; number.value(), numbers[i], "{x} {i} {y}");
-            let expected = match ops[i] {
-                Binary::FloorDiv | Binary::Rem if y == 0 => Flag::Divisor,
-                Binary::Pow if y < 0 => Flag::Power,
-                _ => Flag::Clear,
-            };
-            assert_eq!(rt; flag, expected, "{x} {i} {y}");
+            assert_eq!(rt; flag, flag_wanted(ops[i], y), "{x} {i} {y}");
         }
+    }
+}
+
+// The flag of an operation by its second operand.
+fn flag_wanted(op: Binary, y: i128) -> Flag {
+    let divides = op == Binary::FloorDiv || op == Binary::Rem;
+    if divides && y == 0 {
+        Flag::Divisor
+    } else if op == Binary::Pow && y < 0 {
+        Flag::Power
+    } else {
+        Flag::Clear
     }
 }
 
