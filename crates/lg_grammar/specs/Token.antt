@@ -1,5 +1,5 @@
 -- The tokens of a line as the grammar takes them: a word by its bytes, a number by its value, an
--- operator by its kind.
+-- operator, here called a sign, by its kind.
 use Rattle.std.specs.Prelude.{ℕ, ◌-◌, List, map, take, drop}
 use Rattle.std.specs.Str.Parse.{digits_value}
 use Rattle.lg_lex.specs.declared.tokens.Token.{Token as Span}

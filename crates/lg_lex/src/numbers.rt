@@ -5,7 +5,8 @@ ghost use Rattle.lg_lex.specs.Lexical.{IsNumber, MAX_NUMBER};
 
 use crate::bytes::is_digit;
 
-/// The number that these bytes write.
+/// The number that these bytes write in decimal, with no needless zero in front. `None` where they
+/// write none, or one above 2^64 - 1.
 pub fn number_of(text: &[u8]) -> Option<u64>
     requires { 0 < length text.now }
     ensures found { IfSome result (λ n. decimal n ≡ text.now) }
