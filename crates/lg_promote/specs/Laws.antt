@@ -1,5 +1,5 @@
 -- What the common type is, in the words of the numbers that the types have.
-use Rattle.std.specs.Prelude.{◌≡◌, Option, Some, None, ℤ, true}
+use Rattle.std.specs.Prelude.{◌≡◌, Some, None, ℤ, true}
 use Rattle.lg_elem.specs.declared.dtype.DType.{DType}
 use Rattle.lg_elem.specs.Types.{IsNumber}
 use Rattle.lg_promote.specs.Kinds.{is_same_kind}

@@ -1,6 +1,6 @@
 -- The type that two types have in common. After NumPy's reference, "Data type promotion in NumPy",
 -- but that there are no floats: signed numbers and those of uint64 have no type in common.
-use Rattle.std.specs.Prelude.{◌≡◌, ℕ, ◌*◌, nat_lt, max, IsTrue, ◌⊎◌, Option, Some, None, if◌then◌else◌, ◌==◌}
+use Rattle.std.specs.Prelude.{◌≡◌, ◌*◌, nat_lt, max, IsTrue, ◌⊎◌, Option, Some, None, if◌then◌else◌, ◌==◌}
 use Rattle.lg_elem.specs.declared.dtype.DType.{DType}
 use Rattle.lg_elem.specs.declared.dtype.DType.TheVariants.{Bool as TruthValues, Int8, Int16, Int32, Int64, UInt8, UInt16, UInt32, UInt64}
 use Rattle.lg_elem.specs.Types.{is_signed}
