@@ -122,10 +122,10 @@ section_stands (all ∷ whole) (some ∷ part) xs h full =
     map-flat_map Some (λ i. section whole part (block size xs (i - all.0))) (numbers_in some)
     ∙ flat_map-range_along _ (λ i. map at (map (λ index. i ∷ index) (indices part))) some.0 (some.1 - some.0)
     (λ i low high.
-        section_stands whole part (block size xs (i - all.0)) h.2 (length-block size (all.1 - all.0) xs (i - all.0) full (omega (arith, h.0, h.1)))
-        ∙ map_along _ (λ index. slice_get xs ((i - all.0) * size + place_in whole index)) (indices part)
-        (λ k index found. slice_get-block size xs (i - all.0) (place_in whole index) (place-below whole index (part_covers whole part h.2 index (stands_once part k index found).0)))
-        ∙ sym (map-map at (λ index. i ∷ index) (indices part)))
+    section_stands whole part (block size xs (i - all.0)) h.2 (length-block size (all.1 - all.0) xs (i - all.0) full (omega (arith, h.0, h.1)))
+    ∙ map_along _ (λ index. slice_get xs ((i - all.0) * size + place_in whole index)) (indices part)
+    (λ k index found. slice_get-block size xs (i - all.0) (place_in whole index) (place-below whole index (part_covers whole part h.2 index (stands_once part k index found).0)))
+    ∙ sym (map-map at (λ index. i ∷ index) (indices part)))
     ∙ sym (map-flat_map at (λ i. map (λ index. i ∷ index) (indices part)) (numbers_in some))
 
 -- ---- from indices to ranges
@@ -170,18 +170,18 @@ pub whole_section : {A : Type 0} (whole part : List (ℕ × ℕ)) (xs : List A) 
 whole_section whole part xs is full =
     let at = λ (index : List ℕ). slice_get xs (place_in whole index) in
     same_by_places (map Some xs) (map at (indices whole)) (λ k.
-        slice_get-map Some xs k
-        ∙ elim (slice_get_cases (indices whole) k).1 [
-          | inl h ↦
-              elim (slice_get_cases xs k).1 [
-                | inl g ↦
-                    ap (option_map Some) g.2 ∙ ap Some (sym g.2 ∙ ap (slice_get xs) (sym (stands_once whole k h.0 h.2).1))
-                    ∙ ap (option_map at) (sym h.2)
-                | inr g ↦ absurd (omega (arith, h.1, g.0, full, volume_counts whole))
-              ]
-          | inr h ↦ ap (option_map Some) (slice_get_past xs k (omega (arith, h.0, full, volume_counts whole))) ∙ ap (option_map at) (sym h.1)
-        ]
-        ∙ sym (slice_get-map at (indices whole) k))
+    slice_get-map Some xs k
+    ∙ elim (slice_get_cases (indices whole) k).1 [
+      | inl h ↦
+          elim (slice_get_cases xs k).1 [
+            | inl g ↦
+                ap (option_map Some) g.2 ∙ ap Some (sym g.2 ∙ ap (slice_get xs) (sym (stands_once whole k h.0 h.2).1))
+                ∙ ap (option_map at) (sym h.2)
+            | inr g ↦ absurd (omega (arith, h.1, g.0, full, volume_counts whole))
+          ]
+      | inr h ↦ ap (option_map Some) (slice_get_past xs k (omega (arith, h.0, full, volume_counts whole))) ∙ ap (option_map at) (sym h.1)
+    ]
+    ∙ sym (slice_get-map at (indices whole) k))
     ∙ ap (λ rect. map at (indices rect)) (sym is)
 
 pub empty_section : {A : Type 0} (whole part : List (ℕ × ℕ)) (xs members : List A) → volume_of part ≡ 0 → members ≡ [] → IsSection whole part xs members

@@ -1,7 +1,7 @@
 ghost use Rattle.std.specs.Prelude.{[], ◌∷◌};
 ghost use Rattle.lg_elem.specs.Types.{IsNumber};
 ghost use Rattle.lg_space.specs.Stored.{IsStorable};
-ghost use Rattle.lg_tile.specs.Sections.{Covers};
+ghost use Rattle.lg_tile.specs.Blocks.{IsPart};
 
 use crate::laws::full_tiles;
 use crate::{AnyTile, Tile};
@@ -115,15 +115,17 @@ fn elements_as_a_slice(rt: HostRuntime) -> Result<(), Fail> {
 }
 
 // The section of a tile of 24 elements, 0 to 23, over all of whose axes the ranges begin at 1.
+#[tactic(auto, using(crate::proofs::SectionLemmas::part_covers))]
 fn cuts(rt: &impl Abort, alloc: Global, part: &[(u64, u64)], expected: &[i16]) -> Result<(), Fail>
     requires storable { IsStorable part.now }
-    requires inside { Covers ((1, 3) ∷ (1, 4) ∷ (1, 5) ∷ []) part.now }
+    requires inside { IsPart ((1, 3) ∷ (1, 4) ∷ (1, 5) ∷ []) part.now }
 {
-    let mut items = Vec::new(alloc);
-    for i in 0..24 {
-        items.push(i)?;
+    let mut tile = Tile::filled(alloc, &AnyRect::new(&[(1, 3), (1, 4), (1, 5)]), 0)?;
+    let mut next = 0_i16;
+    for x in tile.items_mut() {
+        *x = next;
+        next = next.wrapping_add(1);
     }
-    let tile = Tile::new(AnyRect::new(&[(1, 3), (1, 4), (1, 5)]), items);
     let section = tile.section(alloc, &AnyRect::new(part))?;
     assert_eq!(rt; section.items(), expected);
     Ok(())
@@ -135,10 +137,16 @@ fn sections(rt: HostRuntime) -> Result<(), Fail> {
     cuts(&rt, alloc, &[(2, 3), (2, 4), (3, 5)], &[18, 19, 22, 23])?;
     cuts(&rt, alloc, &[(1, 3), (3, 4), (1, 2)], &[8, 20])?;
     cuts(&rt, alloc, &[(1, 3), (2, 2), (1, 5)], &[])?;
-    cuts(&rt, alloc, &[(7, 7)], &[])?;
-    cuts(&rt, alloc, &[(1, 2), (1, 3), (1, 5)], &[0, 1, 2, 3, 4, 5, 6, 7])?;
+    cuts(
+        &rt,
+        alloc,
+        &[(1, 2), (1, 3), (1, 5)],
+        &[0, 1, 2, 3, 4, 5, 6, 7],
+    )?;
     let whole = [(1, 3), (1, 4), (1, 5)];
-    let all = [0, 1, 2, 3, 4, 5, 6, 7, 8, 9, 10, 11, 12, 13, 14, 15, 16, 17, 18, 19, 20, 21, 22, 23];
+    let all = [
+        0, 1, 2, 3, 4, 5, 6, 7, 8, 9, 10, 11, 12, 13, 14, 15, 16, 17, 18, 19, 20, 21, 22, 23,
+    ];
     cuts(&rt, alloc, &whole, &all)
 }
 

@@ -17,6 +17,6 @@ returns g c =
     let items = c.args.items.now in
     let filled : 0 < volume_of part = omega (arith, c.volume-count.ensures.value, c.if-count-eq0.false) in
     let copy : c.append_section.new.out.items ≡ section whole part items =
-        c.in_ok-append_section.ensures ∙ ap (λ l. l ++ section c.ranges-2.result.now c.ranges-3.result.now items) c.in_ok-copy.ensures.items
-        ∙ ap (λ w. section w c.ranges-3.result.now items) c.ranges-2.ensures.value ∙ ap (λ p. section whole p items) c.ranges-3.ensures.value in
+    c.in_ok-append_section.ensures ∙ ap (λ l. l ++ section c.ranges-2.result.now c.ranges-3.result.now items) c.in_ok-copy.ensures.items
+    ∙ ap (λ w. section w c.ranges-3.result.now items) c.ranges-2.ensures.value ∙ ap (λ p. section whole p items) c.ranges-3.ensures.value in
     subst (IsSection whole part items) (sym copy) (section_stands whole part items (covered_part whole part filled c.requires.covers) c.requires.full)

@@ -1,0 +1,39 @@
+-- What a loop over elements reads: the elements of a part of a tile, or one number at each place.
+-- Only private functions speak of it.
+use Rattle.std.specs.Prelude.{◌≡◌, ℕ, ◌<◌, List, [], length, map, slice_index_or, ℤ, pos}
+use Rattle.std.specs.List.{range_with_len}
+use Rattle.lg_elem.specs.declared.dtype.DType.{DType}
+use Rattle.lg_elem.specs.Types.{wrap}
+use Rattle.lg_space.specs.Rectangle.{indices, volume_of}
+use Rattle.lg_tile.specs.Sections.{section_items}
+use Rattle.lg_map.specs.declared.columns.Values.{Values}
+use Rattle.lg_map.specs.declared.columns.Values.TheVariants.{Items, Constant}
+
+-- a list of a number for each place below n
+abbrev pub listed : {A : Type 0} → (ℕ → A) → ℕ → List A
+listed f n = map f (range_with_len 0 n)
+
+-- the number at a place of a list of elements
+abbrev pub item_at : {T : Type 0} → (T → ℤ) → List T → ℕ → ℤ
+item_at number items place = slice_index_or (map number items) place (pos 0)
+
+-- the number at a place
+abbrev pub number_in : {T : Type 0} → (T → ℤ) → Values T → ℕ → ℤ
+number_in number (Items section) place = item_at number (section_items section) place
+number_in number (Constant x) place = number x
+
+-- there is an element for each place below n
+abbrev pub Fills : {T : Type 0} → Values T → ℕ → Type 0
+Fills (Items section) n = length (section_items section) ≡ n
+Fills (Constant x) n = Unit {0}
+
+-- the index at a place of a rectangle
+abbrev pub index_in : List (ℕ × ℕ) → ℕ → List ℕ
+index_in rect place = slice_index_or (indices rect) place []
+
+-- the values are, at each place of the rectangle, the number of its index, as an element of type t
+abbrev pub Stands : {T : Type 0} → DType → (T → ℤ) → Values T → List (ℕ × ℕ) → (List ℕ → ℤ) → Type 0
+Stands t number values rect f =
+    Fills values (volume_of rect)
+    × ((place : ℕ) → place < volume_of rect
+    → wrap t (number_in number values place) ≡ wrap t (f (index_in rect place)))

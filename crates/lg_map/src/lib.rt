@@ -1,0 +1,11 @@
+//! Elementwise operations on tiles.
+//!
+//! The operation, the types and the kinds of operand are looked at once for a tile. What runs for
+//! each element is a loop over slices that is compiled for just these.
+#![tactic(auto)]
+
+mod columns;
+mod loops;
+mod operation;
+
+pub use operation::{MapOp, Operand};
