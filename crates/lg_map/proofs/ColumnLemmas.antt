@@ -1,9 +1,16 @@
 -- What is read at a place.
-use Rattle.std.proofs.Common.{◌≡◌, ℕ, zero, suc, ◌<◌, List, [], ◌∷◌, length, map, get_or, ℤ, pos, refl, sym, ap, ◌∙◌, arith}
+use Rattle.std.proofs.Common.{◌≡◌, ℕ, zero, suc, ◌<◌, List, [], ◌∷◌, length, map, get_or, Option, Some, None, slice_get, unwrap_or, ℤ, pos, refl, sym, ap, ◌∙◌, arith}
+use Rattle.std.specs.Option.{option_map}
+use Rattle.std.proofs.lemmas.List.{length-map}
+use Rattle.std.proofs.lemmas.List.FromFn.{length-map-range_with_len, get_or-map-range_with_len}
+use Rattle.std.proofs.lemmas.Option.{slice_get-map, slice_get-get_or, unwrap_or-slice_get, same_Some}
 use Rattle.lg_elem.specs.declared.dtype.DType.{DType}
 use Rattle.lg_elem.specs.Types.{IsNumber, wrap}
-use Rattle.lg_elem.proofs.WrapLemmas.{wrap_same}
-use Rattle.lg_map.specs.Columns.{item_at}
+use Rattle.lg_elem.proofs.WrapLemmas.{wrap_same, wrap_fits}
+use Rattle.lg_space.specs.Rectangle.{indices, volume_of, place_in}
+use Rattle.lg_space.proofs.Places.{volume_counts}
+use Rattle.lg_tile.specs.Sections.{IsSection}
+use Rattle.lg_map.specs.Columns.{item_at, index_in, listed}
 
 -- a number of the type is what it is wrapped to
 pub wrapped_same : (t : DType) (x y : ℤ) → IsNumber t y → y ≡ x → x ≡ wrap t x
@@ -14,3 +21,44 @@ pub item_read : {T : Type 0} (number : T → ℤ) (items : List T) (place : ℕ)
 item_read number [] place x within read = absurd (omega arith)
 item_read number (y ∷ items) zero x within read = ap number read
 item_read number (y ∷ items) (suc place) x within read = item_read number items place x (omega arith) read
+
+-- ---- the elements of a part
+
+module _ {T : Type 0} (number : T → ℤ) (whole part : List (ℕ × ℕ)) (items members : List T) (is : IsSection whole part items members) where
+  -- there is one for each index
+  pub section_full : length members ≡ volume_of part
+  section_full = sym (length-map members Some) ∙ ap length is ∙ length-map (indices part) _ ∙ volume_counts part
+
+  same_member : (place : ℕ) → place < volume_of part → slice_get members place ≡ slice_get items (place_in whole (index_in part place))
+  same_member place below =
+      let at = λ (index : List ℕ). slice_get items (place_in whole index) in
+      let there = slice_get-get_or (indices part) place [] (omega (arith, below, volume_counts part)) in
+      same_some (slice_get members place) (at (index_in part place))
+      (sym (slice_get-map Some members place) ∙ ap (λ l. slice_get l place) is ∙ slice_get-map at (indices part) place ∙ ap (option_map at) there)
+    where
+      same_some : (o : Option T) (p : Option T) → option_map Some o ≡ Some p → o ≡ p
+      same_some None p e = cc
+      same_some (Some x) p e = same_Some (Some x) p e
+
+  -- and its number is that of the item at the index
+  pub section_number : (place : ℕ) → place < volume_of part → item_at number members place ≡ item_at number items (place_in whole (index_in part place))
+  section_number place below =
+      sym (by_option members place) ∙ ap (λ o. unwrap_or (option_map number o) (pos 0)) (same_member place below) ∙ by_option items (place_in whole (index_in part place))
+    where
+      by_option : (xs : List T) (i : ℕ) → unwrap_or (option_map number (slice_get xs i)) (pos 0) ≡ item_at number xs i
+      by_option xs i = ap (λ o. unwrap_or o (pos 0)) (sym (slice_get-map number xs i)) ∙ unwrap_or-slice_get (map number xs) i (pos 0)
+
+  -- as elements of type t
+  pub read_stands : (t : DType) → (length members ≡ volume_of part)
+      × ((place : ℕ) → place < volume_of part → wrap t (item_at number members place) ≡ wrap t (item_at number items (place_in whole (index_in part place))))
+  read_stands t = (section_full, λ place below. ap (wrap t) (section_number place below))
+
+  -- and where each was cast to type t
+  pub cast_stands : {B : Type 0} (value : B → ℤ) (t : DType) (out : List B) (n : ℕ) → n ≡ volume_of part → map value out ≡ listed (λ place. wrap t (item_at number members place)) n
+      → (length out ≡ volume_of part)
+      × ((place : ℕ) → place < volume_of part → wrap t (item_at value out place) ≡ wrap t (item_at number items (place_in whole (index_in part place))))
+  cast_stands value t out n full made =
+      (sym (length-map out value) ∙ ap length made ∙ length-map-range_with_len _ 0 n ∙ full, λ place below.
+          let at : item_at value out place ≡ wrap t (item_at number members place) =
+              ap (λ l. get_or l place (pos 0)) made ∙ get_or-map-range_with_len (λ k. wrap t (item_at number members k)) 0 n place place (pos 0) (omega (arith, full, below)) (omega arith) in
+          ap (wrap t) at ∙ wrap_same t (wrap t (item_at number members place)) (wrap_fits t (item_at number members place)) ∙ ap (wrap t) (section_number place below))

@@ -1,2 +1,4 @@
 pub mod ColumnLemmas
+pub mod FlagLemmas
 pub mod LoopLemmas
+pub mod MapLemmas

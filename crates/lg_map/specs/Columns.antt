@@ -1,11 +1,14 @@
 -- What a loop over elements reads: the elements of a part of a tile, or one number at each place.
 -- Only private functions speak of it.
-use Rattle.std.specs.Prelude.{◌≡◌, ℕ, ◌<◌, List, [], length, map, slice_index_or, ℤ, pos}
+use Rattle.std.specs.Prelude.{◌≡◌, ℕ, ◌<◌, Bool, List, [], length, map, slice_index_or, ℤ, pos}
+use Rattle.std.specs.Int.{from_bool}
 use Rattle.std.specs.List.{range_with_len}
 use Rattle.lg_elem.specs.declared.dtype.DType.{DType}
 use Rattle.lg_elem.specs.Types.{wrap}
-use Rattle.lg_space.specs.Rectangle.{indices, volume_of}
+use Rattle.lg_space.specs.Rectangle.{indices, place_in, volume_of}
+use Rattle.lg_tile.specs.declared.tile.Tile.{Tile}
 use Rattle.lg_tile.specs.Sections.{section_items}
+use Rattle.lg_tile.specs.Tile.{tile_items, tile_rect}
 use Rattle.lg_map.specs.declared.columns.Values.{Values}
 use Rattle.lg_map.specs.declared.columns.Values.TheVariants.{Items, Constant}
 
@@ -22,6 +25,10 @@ abbrev pub number_in : {T : Type 0} → (T → ℤ) → Values T → ℕ → ℤ
 number_in number (Items section) place = item_at number (section_items section) place
 number_in number (Constant x) place = number x
 
+-- the number of a typed tile's element at an index
+abbrev pub typed_at : {T : Type 0} → (T → ℤ) → Tile T → List ℕ → ℤ
+typed_at number tile index = item_at number (tile_items tile) (place_in (tile_rect tile) index)
+
 -- there is an element for each place below n
 abbrev pub Fills : {T : Type 0} → Values T → ℕ → Type 0
 Fills (Items section) n = length (section_items section) ≡ n
@@ -37,3 +44,10 @@ Stands t number values rect f =
     Fills values (volume_of rect)
     × ((place : ℕ) → place < volume_of rect
     → wrap t (number_in number values place) ≡ wrap t (f (index_in rect place)))
+
+-- the tile has this rectangle, and at each index a truth value
+abbrev pub IsTruths : Tile Bool → List (ℕ × ℕ) → (List ℕ → Bool) → Type 0
+IsTruths tile rect f =
+    (tile_rect tile ≡ rect)
+    × (map (λ b. pos (from_bool b)) (tile_items tile)
+    ≡ map (λ index. pos (from_bool (f index))) (indices rect))

@@ -14,7 +14,7 @@ use Rattle.lg_space.specs.Stored.{MAX_VOLUME}
 use Rattle.lg_shape.specs.Shapes.{whole, size_of, place_of}
 use Rattle.lg_tile.specs.declared.any_tile.AnyTile.{AnyTile}
 use Rattle.lg_tile.specs.Sections.{Covers}
-use Rattle.lg_tile.specs.Tiles.{number_at, rect_of}
+use Rattle.lg_tile.specs.Tiles.{dtype_of, number_at, numbers, rect_of}
 use Rattle.lg_map.specs.declared.operation.Operand.{Operand}
 use Rattle.lg_map.specs.declared.operation.Operand.TheVariants.{Input, Constant}
 use Rattle.lg_map.specs.declared.operation.MapOp.{MapOp}
@@ -39,13 +39,13 @@ map_value (ops.Binary op x y) t tiles index =
 map_value (ops.Compare op x y) t tiles index =
     pos (from_bool (compare_of op (operand_at tiles x index) (operand_at tiles y index)))
 map_value (ops.Select choice x y) t tiles index =
-    wrap t (if is_zero (operand_at tiles choice index) then operand_at tiles y index
-    else operand_at tiles x index)
+    if is_zero (operand_at tiles choice index) then wrap t (operand_at tiles y index)
+    else wrap t (operand_at tiles x index)
 map_value (ops.Cast x) t tiles index = wrap t (operand_at tiles x index)
 map_value (ops.Fill x) t tiles index = wrap t x
 map_value (ops.Count x) t tiles index = wrap t (x +ℤ pos (slice_index index 0))
-map_value (ops.List shape numbers) t tiles index =
-    wrap t (slice_index_or numbers (place_of shape index) (pos 0))
+map_value (ops.List shape list) t tiles index =
+    wrap t (slice_index_or list (place_of shape index) (pos 0))
 
 -- the flag of the operation at an index
 abbrev pub map_flag : MapOp → DType → List AnyTile → List ℕ → Flag
@@ -65,13 +65,23 @@ map_values op t tiles rect = map (map_value op t tiles) (indices rect)
 abbrev pub map_flags : MapOp → DType → List AnyTile → List (ℕ × ℕ) → Flag
 map_flags op t tiles rect = first_flag (map (map_flag op t tiles) (indices rect))
 
+-- the tile and the flag are those of the operation over this rectangle
+abbrev pub Maps : MapOp → DType → List AnyTile → List (ℕ × ℕ) → AnyTile × Flag → Type 0
+Maps op t tiles rect answer =
+    (dtype_of answer.0 ≡ t) × (rect_of answer.0 ≡ rect)
+    × (numbers answer.0 ≡ map_values op t tiles rect) × (answer.1 ≡ map_flags op t tiles rect)
+
 -- a number that a script can write for an operand
 abbrev pub IsConstant : ℤ → Type 0
 IsConstant x = (neg_ℤ (pos (2 ^ 63)) ≤ℤ x) × (x ≤ℤ pos (2 ^ 64 - 1))
 
--- the operand is a number, or one of the tiles, which has every index of the rectangle
+-- there is such a tile, and it has every index of the rectangle
+abbrev pub HasInput : List AnyTile → List (ℕ × ℕ) → ℕ → Type 0
+HasInput tiles rect k = IsSomeAnd (slice_get tiles k) (λ tile. Covers (rect_of tile) rect)
+
+-- the operand is one of the tiles, or a number
 abbrev pub IsOperand : List AnyTile → List (ℕ × ℕ) → Operand → Type 0
-IsOperand tiles rect (Input k) = IsSomeAnd (slice_get tiles k) (λ tile. Covers (rect_of tile) rect)
+IsOperand tiles rect (Input k) = HasInput tiles rect k
 IsOperand tiles rect (Constant x) = IsConstant x
 
 -- the operation can be evaluated on these tiles over this rectangle, with results of type t.
@@ -87,6 +97,6 @@ IsMap (ops.Select choice x y) tiles rect t =
 IsMap (ops.Cast x) tiles rect t = IsOperand tiles rect x
 IsMap (ops.Fill x) tiles rect t = IsConstant x
 IsMap (ops.Count x) tiles rect t = IsConstant x × (length rect ≡ 1)
-IsMap (ops.List shape numbers) tiles rect t =
-    (length numbers ≡ size_of shape) × (size_of shape ≤ MAX_VOLUME) × Covers (whole shape) rect
-    × All IsConstant numbers
+IsMap (ops.List shape list) tiles rect t =
+    (length list ≡ size_of shape) × (size_of shape ≤ MAX_VOLUME) × Covers (whole shape) rect
+    × All IsConstant list

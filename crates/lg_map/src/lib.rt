@@ -4,8 +4,13 @@
 //! each element is a loop over slices that is compiled for just these.
 #![tactic(auto)]
 
+mod binary;
 mod columns;
+mod compare;
 mod loops;
+mod operands;
 mod operation;
+mod select;
+mod unary;
 
 pub use operation::{MapOp, Operand};

@@ -1,0 +1,298 @@
+//! Comparisons, by the operands' own numbers.
+ghost use Rattle.std.specs.Prelude.{◌≡◌, ℕ, List, length, map, IfOk, true, ℤ, pos};
+ghost use Rattle.std.specs.Int.{from_bool};
+ghost use Rattle.lg_elem.specs.declared.dtype.DType.TheVariants.{Bool as Truth};
+ghost use Rattle.lg_elem.specs.Operations.{compare_of};
+ghost use Rattle.lg_elem.specs.Types.{IsNumber};
+ghost use Rattle.lg_space.specs.Rectangle.{volume_of};
+ghost use Rattle.lg_tile.specs.Sections.{Covers};
+ghost use Rattle.lg_tile.specs.Tile.{tile_items, tile_rect};
+ghost use Rattle.lg_tile.specs.Tiles.{number_at, rect_of};
+ghost use Rattle.lg_map.specs.declared.operation.MapOp.TheVariants as ops;
+ghost use Rattle.lg_map.specs.Columns.{IsTruths, item_at, listed, typed_at};
+ghost use Rattle.lg_map.specs.Mapping.{IsConstant, IsOperand, Maps, operand_at};
+
+use crate::Operand;
+use crate::columns::{Column, Constant};
+use crate::loops::compared;
+use crate::operands::input;
+use lg_elem::kernels::{Eq, Ge, Gt, Le, Lt, Ne};
+use lg_elem::{Compare, Flag};
+use lg_outside::NoMemory;
+use lg_space::AnyRect;
+use lg_tile::{AnyTile, Tile, TileElem, each};
+use std::alloc::Global;
+
+/// The comparison of two operands.
+pub fn compare_tile<'a>(
+    alloc: Global,
+    op: Compare,
+    x: &Operand,
+    y: &Operand,
+    inputs: &'a [&'a AnyTile],
+    rect: &AnyRect,
+) -> Result<(AnyTile, Flag), NoMemory>
+    requires first { IsOperand (map (λ input. input.now) inputs.now) rect.now x.now }
+    requires second { IsOperand (map (λ input. input.now) inputs.now) rect.now y.now }
+    ensures { IfOk result (Maps (ops.Compare op x.now y.now) Truth
+        (map (λ input. input.now) inputs.now) rect.now) }
+{
+    let tile = truths(alloc, op, x, y, inputs, rect)?;
+    Ok((bool::any(tile), Flag::Clear))
+}
+
+// The tile of the truth values, by the kinds of the operands.
+fn truths<'a>(
+    alloc: Global,
+    op: Compare,
+    x: &Operand,
+    y: &Operand,
+    inputs: &'a [&'a AnyTile],
+    rect: &AnyRect,
+) -> Result<Tile<bool>, NoMemory>
+    requires first { IsOperand (map (λ input. input.now) inputs.now) rect.now x.now }
+    requires second { IsOperand (map (λ input. input.now) inputs.now) rect.now y.now }
+    ensures { IfOk result (λ tile. IsTruths tile rect.now (λ index. compare_of op
+        (operand_at (map (λ input. input.now) inputs.now) x.now index)
+        (operand_at (map (λ input. input.now) inputs.now) y.now index))) }
+{
+    match (x, y) {
+        (Operand::Input(x), Operand::Input(y)) => {
+            let (x, y) = (input(inputs, *x, rect), input(inputs, *y, rect));
+            Ok(compare_tiles(alloc, op, x, y, rect)?)
+        }
+        (Operand::Input(x), Operand::Constant(y)) => {
+            Ok(compare_number(alloc, op, input(inputs, *x, rect), *y, rect)?)
+        }
+        (Operand::Constant(x), Operand::Input(y)) => {
+            Ok(compare_number(alloc, mirrored(op), input(inputs, *y, rect), *x, rect)?)
+        }
+        (Operand::Constant(x), Operand::Constant(y)) => {
+            Ok(compare_numbers(alloc, op, *x, *y, rect)?)
+        }
+    }
+}
+
+// The comparison that says the same with its operands exchanged.
+fn mirrored(op: Compare) -> Compare
+    ensures { (x y : ℤ) → compare_of result y x ≡ compare_of op x y }
+{
+    match op {
+        Compare::Eq => Compare::Eq,
+        Compare::Ne => Compare::Ne,
+        Compare::Lt => Compare::Gt,
+        Compare::Le => Compare::Ge,
+        Compare::Gt => Compare::Lt,
+        Compare::Ge => Compare::Le,
+    }
+}
+
+// Two tiles of any types.
+fn compare_tiles(
+    alloc: Global,
+    op: Compare,
+    x: &AnyTile,
+    y: &AnyTile,
+    rect: &AnyRect,
+) -> Result<Tile<bool>, NoMemory>
+    requires first { Covers (rect_of x.now) rect.now }
+    requires second { Covers (rect_of y.now) rect.now }
+    ensures { IfOk result (λ tile. IsTruths tile rect.now
+        (λ index. compare_of op (number_at x.now index) (number_at y.now index))) }
+{
+    each!(x, x => compare_left(alloc, op, x, y, rect))
+}
+
+// Two tiles, of which the first has a known type.
+fn compare_left<A: TileElem>(
+    alloc: Global,
+    op: Compare,
+    x: &Tile<A>,
+    y: &AnyTile,
+    rect: &AnyRect,
+) -> Result<Tile<bool>, NoMemory>
+    requires first { Covers (tile_rect x.now) rect.now }
+    requires second { Covers (rect_of y.now) rect.now }
+    ensures { IfOk result (λ tile. IsTruths tile rect.now
+        (λ index. compare_of op (typed_at A.number x.now index) (number_at y.now index))) }
+{
+    each!(y, y => compare_typed(alloc, op, x, y, rect))
+}
+
+// Two tiles of known types.
+fn compare_typed<A: TileElem, B: TileElem>(
+    alloc: Global,
+    op: Compare,
+    x: &Tile<A>,
+    y: &Tile<B>,
+    rect: &AnyRect,
+) -> Result<Tile<bool>, NoMemory>
+    requires first { Covers (tile_rect x.now) rect.now }
+    requires second { Covers (tile_rect y.now) rect.now }
+    ensures { IfOk result (λ tile. IsTruths tile rect.now
+        (λ index. compare_of op (typed_at A.number x.now index) (typed_at B.number y.now index))) }
+{
+    let x = x.section(alloc, rect)?;
+    let y = y.section(alloc, rect)?;
+    Ok(compare_lists::<A, B>(alloc, op, x.items(), y.items(), rect)?)
+}
+
+// The truth values of two lists.
+fn compare_lists<A: TileElem, B: TileElem>(
+    alloc: Global,
+    op: Compare,
+    x: &[A],
+    y: &[B],
+    rect: &AnyRect,
+) -> Result<Tile<bool>, NoMemory>
+    requires first { length x.now ≡ volume_of rect.now }
+    requires second { length y.now ≡ volume_of rect.now }
+    ensures rect { IfOk result (λ tile. tile_rect tile ≡ rect.now) }
+    ensures items { IfOk result (λ tile. map (λ b. pos (from_bool b)) (tile_items tile)
+        ≡ listed (λ place. pos (from_bool (compare_of op (item_at A.number x.now place)
+        (item_at B.number y.now place)))) (volume_of rect.now)) }
+{
+    let mut tile = Tile::filled(alloc, rect, false)?;
+    compare_each(op, tile.items_mut(), x, y);
+    Ok(tile)
+}
+
+// Picks the loop of the comparison.
+fn compare_each<A: TileElem, B: TileElem>(op: Compare, out: &mut [bool], x: &[A], y: &[B])
+    requires first { length x.now ≡ length out.old }
+    requires second { length y.now ≡ length out.old }
+    ensures { map (λ b. pos (from_bool b)) out.new
+        ≡ listed (λ place. pos (from_bool (compare_of op (item_at A.number x.now place)
+        (item_at B.number y.now place)))) (length out.old) }
+{
+    match op {
+        Compare::Eq => compared::<A, B, Eq, _, _>(out, x, y),
+        Compare::Ne => compared::<A, B, Ne, _, _>(out, x, y),
+        Compare::Lt => compared::<A, B, Lt, _, _>(out, x, y),
+        Compare::Le => compared::<A, B, Le, _, _>(out, x, y),
+        Compare::Gt => compared::<A, B, Gt, _, _>(out, x, y),
+        Compare::Ge => compared::<A, B, Ge, _, _>(out, x, y),
+    }
+}
+
+// A tile of any type and a number.
+fn compare_number(
+    alloc: Global,
+    op: Compare,
+    x: &AnyTile,
+    y: i128,
+    rect: &AnyRect,
+) -> Result<Tile<bool>, NoMemory>
+    requires covers { Covers (rect_of x.now) rect.now }
+    requires number { IsConstant y }
+    ensures { IfOk result (λ tile. IsTruths tile rect.now
+        (λ index. compare_of op (number_at x.now index) y)) }
+{
+    each!(x, x => compare_typed_number(alloc, op, x, y, rect))
+}
+
+// A tile of a known type and a number, which becomes an element once: of the same type where it has
+// the number, so that equal types are compared, else of one that has it.
+fn compare_typed_number<A: TileElem>(
+    alloc: Global,
+    op: Compare,
+    x: &Tile<A>,
+    y: i128,
+    rect: &AnyRect,
+) -> Result<Tile<bool>, NoMemory>
+    requires covers { Covers (tile_rect x.now) rect.now }
+    requires number { IsConstant y }
+    ensures { IfOk result (λ tile. IsTruths tile rect.now
+        (λ index. compare_of op (typed_at A.number x.now index) y)) }
+{
+    let x = x.section(alloc, rect)?;
+    if has_number::<A>(y) {
+        return Ok(compare_as::<A, A>(alloc, op, x.items(), y, rect)?);
+    }
+    if y <= i128::from(i64::MAX) {
+        return Ok(compare_as::<A, i64>(alloc, op, x.items(), y, rect)?);
+    }
+    Ok(compare_as::<A, u64>(alloc, op, x.items(), y, rect)?)
+}
+
+// Whether the type has the number.
+fn has_number<B: TileElem>(y: i128) -> bool
+    ensures { result ≡ true → IsNumber B.DTYPE y }
+{
+    B::wrap(y).value() == y
+}
+
+// The truth values of a list and a number that a type has.
+#[tactic(auto, using(lg_elem::proofs::WrapLemmas::wrap_same))]
+fn compare_as<A: TileElem, B: TileElem>(
+    alloc: Global,
+    op: Compare,
+    x: &[A],
+    y: i128,
+    rect: &AnyRect,
+) -> Result<Tile<bool>, NoMemory>
+    requires full { length x.now ≡ volume_of rect.now }
+    requires number { IsNumber B.DTYPE y }
+    ensures rect { IfOk result (λ tile. tile_rect tile ≡ rect.now) }
+    ensures items { IfOk result (λ tile. map (λ b. pos (from_bool b)) (tile_items tile)
+        ≡ listed (λ place. pos (from_bool (compare_of op (item_at A.number x.now place) y)))
+        (volume_of rect.now)) }
+{
+    let mut tile = Tile::filled(alloc, rect, false)?;
+    compare_to(op, tile.items_mut(), x, element::<B>(y));
+    Ok(tile)
+}
+
+// The element of a number that the type has.
+#[tactic(auto, using(lg_elem::proofs::WrapLemmas::wrap_same))]
+fn element<B: TileElem>(y: i128) -> B
+    requires { IsNumber B.DTYPE y }
+    ensures { B.number result ≡ y }
+{
+    B::wrap(y)
+}
+
+// Picks the loop of the comparison.
+fn compare_to<A: TileElem, B: TileElem>(op: Compare, out: &mut [bool], x: &[A], y: B)
+    requires { length x.now ≡ length out.old }
+    ensures { map (λ b. pos (from_bool b)) out.new
+        ≡ listed (λ place. pos (from_bool (compare_of op (item_at A.number x.now place)
+        (B.number y)))) (length out.old) }
+{
+    match op {
+        Compare::Eq => compared::<A, B, Eq, _, _>(out, x, Constant(y)),
+        Compare::Ne => compared::<A, B, Ne, _, _>(out, x, Constant(y)),
+        Compare::Lt => compared::<A, B, Lt, _, _>(out, x, Constant(y)),
+        Compare::Le => compared::<A, B, Le, _, _>(out, x, Constant(y)),
+        Compare::Gt => compared::<A, B, Gt, _, _>(out, x, Constant(y)),
+        Compare::Ge => compared::<A, B, Ge, _, _>(out, x, Constant(y)),
+    }
+}
+
+// Two numbers, which compare so at each index or at none.
+#[tactic(auto, using(crate::proofs::MapLemmas::same_at_each))]
+fn compare_numbers(
+    alloc: Global,
+    op: Compare,
+    x: i128,
+    y: i128,
+    rect: &AnyRect,
+) -> Result<Tile<bool>, NoMemory>
+    ensures { IfOk result (λ tile. IsTruths tile rect.now (λ index. compare_of op x y)) }
+{
+    Ok(Tile::filled(alloc, rect, holds(op, x, y))?)
+}
+
+// Whether two numbers compare so.
+fn holds(op: Compare, x: i128, y: i128) -> bool
+    ensures { result ≡ compare_of op x y }
+{
+    match op {
+        Compare::Eq => x <= y && y <= x,
+        Compare::Ne => x < y || y < x,
+        Compare::Lt => x < y,
+        Compare::Le => x <= y,
+        Compare::Gt => y < x,
+        Compare::Ge => y <= x,
+    }
+}
