@@ -4,6 +4,8 @@ use Rattle.std.specs.Prelude.{◌≡◌, ℕ, ◌<◌, Bool, List, [], length, m
 use Rattle.std.specs.Int.{from_bool}
 use Rattle.std.specs.List.{range_with_len}
 use Rattle.lg_elem.specs.declared.dtype.DType.{DType}
+use Rattle.lg_elem.specs.declared.kinds.Compare.{Compare}
+use Rattle.lg_elem.specs.Operations.{compare_of}
 use Rattle.lg_elem.specs.Types.{wrap}
 use Rattle.lg_space.specs.Rectangle.{indices, place_in, volume_of}
 use Rattle.lg_tile.specs.declared.tile.Tile.{Tile}
@@ -45,9 +47,9 @@ Stands t number values rect f =
     × ((place : ℕ) → place < volume_of rect
     → wrap t (number_in number values place) ≡ wrap t (f (index_in rect place)))
 
--- the tile has this rectangle, and at each index a truth value
-abbrev pub IsTruths : Tile Bool → List (ℕ × ℕ) → (List ℕ → Bool) → Type 0
-IsTruths tile rect f =
+-- the tile has this rectangle, and at each index whether two numbers compare so
+abbrev pub IsTruths : Tile Bool → List (ℕ × ℕ) → Compare → (List ℕ → ℤ) → (List ℕ → ℤ) → Type 0
+IsTruths tile rect op f g =
     (tile_rect tile ≡ rect)
     × (map (λ b. pos (from_bool b)) (tile_items tile)
-    ≡ map (λ index. pos (from_bool (f index))) (indices rect))
+    ≡ map (λ index. pos (from_bool (compare_of op (f index) (g index)))) (indices rect))

@@ -13,7 +13,7 @@ ghost use Rattle.lg_map.specs.Columns.{IsTruths, item_at, listed, typed_at};
 ghost use Rattle.lg_map.specs.Mapping.{IsConstant, IsOperand, Maps, operand_at};
 
 use crate::Operand;
-use crate::columns::{Column, Constant};
+use crate::columns::Constant;
 use crate::loops::compared;
 use crate::operands::input;
 use lg_elem::kernels::{Eq, Ge, Gt, Le, Lt, Ne};
@@ -52,9 +52,9 @@ fn truths<'a>(
 ) -> Result<Tile<bool>, NoMemory>
     requires first { IsOperand (map (λ input. input.now) inputs.now) rect.now x.now }
     requires second { IsOperand (map (λ input. input.now) inputs.now) rect.now y.now }
-    ensures { IfOk result (λ tile. IsTruths tile rect.now (λ index. compare_of op
-        (operand_at (map (λ input. input.now) inputs.now) x.now index)
-        (operand_at (map (λ input. input.now) inputs.now) y.now index))) }
+    ensures { IfOk result (λ tile. IsTruths tile rect.now op
+        (operand_at (map (λ input. input.now) inputs.now) x.now)
+        (operand_at (map (λ input. input.now) inputs.now) y.now)) }
 {
     match (x, y) {
         (Operand::Input(x), Operand::Input(y)) => {
@@ -65,7 +65,7 @@ fn truths<'a>(
             Ok(compare_number(alloc, op, input(inputs, *x, rect), *y, rect)?)
         }
         (Operand::Constant(x), Operand::Input(y)) => {
-            Ok(compare_number(alloc, mirrored(op), input(inputs, *y, rect), *x, rect)?)
+            Ok(compare_from(alloc, op, *x, input(inputs, *y, rect), rect)?)
         }
         (Operand::Constant(x), Operand::Constant(y)) => {
             Ok(compare_numbers(alloc, op, *x, *y, rect)?)
@@ -87,6 +87,23 @@ fn mirrored(op: Compare) -> Compare
     }
 }
 
+// A number and a tile of any type.
+#[tactic(auto, using(crate::proofs::MapLemmas::mirrored_truths))]
+fn compare_from(
+    alloc: Global,
+    op: Compare,
+    x: i128,
+    y: &AnyTile,
+    rect: &AnyRect,
+) -> Result<Tile<bool>, NoMemory>
+    requires number { IsConstant x }
+    requires covers { Covers (rect_of y.now) rect.now }
+    ensures { IfOk result
+        (λ tile. IsTruths tile rect.now op (λ index. x) (number_at y.now)) }
+{
+    Ok(compare_number(alloc, mirrored(op), y, x, rect)?)
+}
+
 // Two tiles of any types.
 fn compare_tiles(
     alloc: Global,
@@ -97,8 +114,8 @@ fn compare_tiles(
 ) -> Result<Tile<bool>, NoMemory>
     requires first { Covers (rect_of x.now) rect.now }
     requires second { Covers (rect_of y.now) rect.now }
-    ensures { IfOk result (λ tile. IsTruths tile rect.now
-        (λ index. compare_of op (number_at x.now index) (number_at y.now index))) }
+    ensures { IfOk result
+        (λ tile. IsTruths tile rect.now op (number_at x.now) (number_at y.now)) }
 {
     each!(x, x => compare_left(alloc, op, x, y, rect))
 }
@@ -113,8 +130,8 @@ fn compare_left<A: TileElem>(
 ) -> Result<Tile<bool>, NoMemory>
     requires first { Covers (tile_rect x.now) rect.now }
     requires second { Covers (rect_of y.now) rect.now }
-    ensures { IfOk result (λ tile. IsTruths tile rect.now
-        (λ index. compare_of op (typed_at A.number x.now index) (number_at y.now index))) }
+    ensures { IfOk result
+        (λ tile. IsTruths tile rect.now op (typed_at A.number x.now) (number_at y.now)) }
 {
     each!(y, y => compare_typed(alloc, op, x, y, rect))
 }
@@ -129,8 +146,8 @@ fn compare_typed<A: TileElem, B: TileElem>(
 ) -> Result<Tile<bool>, NoMemory>
     requires first { Covers (tile_rect x.now) rect.now }
     requires second { Covers (tile_rect y.now) rect.now }
-    ensures { IfOk result (λ tile. IsTruths tile rect.now
-        (λ index. compare_of op (typed_at A.number x.now index) (typed_at B.number y.now index))) }
+    ensures { IfOk result
+        (λ tile. IsTruths tile rect.now op (typed_at A.number x.now) (typed_at B.number y.now)) }
 {
     let x = x.section(alloc, rect)?;
     let y = y.section(alloc, rect)?;
@@ -185,14 +202,13 @@ fn compare_number(
 ) -> Result<Tile<bool>, NoMemory>
     requires covers { Covers (rect_of x.now) rect.now }
     requires number { IsConstant y }
-    ensures { IfOk result (λ tile. IsTruths tile rect.now
-        (λ index. compare_of op (number_at x.now index) y)) }
+    ensures { IfOk result
+        (λ tile. IsTruths tile rect.now op (number_at x.now) (λ index. y)) }
 {
     each!(x, x => compare_typed_number(alloc, op, x, y, rect))
 }
 
-// A tile of a known type and a number, which becomes an element once: of the same type where it has
-// the number, so that equal types are compared, else of one that has it.
+// A tile of a known type and a number.
 fn compare_typed_number<A: TileElem>(
     alloc: Global,
     op: Compare,
@@ -202,17 +218,36 @@ fn compare_typed_number<A: TileElem>(
 ) -> Result<Tile<bool>, NoMemory>
     requires covers { Covers (tile_rect x.now) rect.now }
     requires number { IsConstant y }
-    ensures { IfOk result (λ tile. IsTruths tile rect.now
-        (λ index. compare_of op (typed_at A.number x.now index) y)) }
+    ensures { IfOk result
+        (λ tile. IsTruths tile rect.now op (typed_at A.number x.now) (λ index. y)) }
 {
     let x = x.section(alloc, rect)?;
+    Ok(compare_items::<A>(alloc, op, x.items(), y, rect)?)
+}
+
+// The truth values of a list and a number. The number is compared as an element: of the same type
+// where that has it, so that equal types are compared, else of one that has it.
+fn compare_items<A: TileElem>(
+    alloc: Global,
+    op: Compare,
+    x: &[A],
+    y: i128,
+    rect: &AnyRect,
+) -> Result<Tile<bool>, NoMemory>
+    requires full { length x.now ≡ volume_of rect.now }
+    requires number { IsConstant y }
+    ensures rect { IfOk result (λ tile. tile_rect tile ≡ rect.now) }
+    ensures items { IfOk result (λ tile. map (λ b. pos (from_bool b)) (tile_items tile)
+        ≡ listed (λ place. pos (from_bool (compare_of op (item_at A.number x.now place) y)))
+        (volume_of rect.now)) }
+{
     if has_number::<A>(y) {
-        return Ok(compare_as::<A, A>(alloc, op, x.items(), y, rect)?);
+        return compare_as::<A, A>(alloc, op, x, y, rect);
     }
     if y <= i128::from(i64::MAX) {
-        return Ok(compare_as::<A, i64>(alloc, op, x.items(), y, rect)?);
+        return compare_as::<A, i64>(alloc, op, x, y, rect);
     }
-    Ok(compare_as::<A, u64>(alloc, op, x.items(), y, rect)?)
+    compare_as::<A, u64>(alloc, op, x, y, rect)
 }
 
 // Whether the type has the number.
@@ -270,7 +305,6 @@ fn compare_to<A: TileElem, B: TileElem>(op: Compare, out: &mut [bool], x: &[A], 
 }
 
 // Two numbers, which compare so at each index or at none.
-#[tactic(auto, using(crate::proofs::MapLemmas::same_at_each))]
 fn compare_numbers(
     alloc: Global,
     op: Compare,
@@ -278,7 +312,7 @@ fn compare_numbers(
     y: i128,
     rect: &AnyRect,
 ) -> Result<Tile<bool>, NoMemory>
-    ensures { IfOk result (λ tile. IsTruths tile rect.now (λ index. compare_of op x y)) }
+    ensures { IfOk result (λ tile. IsTruths tile rect.now op (λ index. x) (λ index. y)) }
 {
     Ok(Tile::filled(alloc, rect, holds(op, x, y))?)
 }
