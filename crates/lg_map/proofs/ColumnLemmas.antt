@@ -9,8 +9,13 @@ use Rattle.lg_elem.specs.Types.{IsNumber, wrap}
 use Rattle.lg_elem.proofs.WrapLemmas.{wrap_same, wrap_fits}
 use Rattle.lg_space.specs.Rectangle.{indices, volume_of, place_in}
 use Rattle.lg_space.proofs.Places.{volume_counts}
-use Rattle.lg_tile.specs.Sections.{IsSection}
-use Rattle.lg_map.specs.Columns.{item_at, index_in, listed}
+use Rattle.lg_tile.specs.declared.any_tile.AnyTile.{AnyTile}
+use Rattle.lg_tile.specs.declared.section.Section.{Section}
+use Rattle.lg_tile.specs.declared.tile.Tile.{Tile}
+use Rattle.lg_tile.specs.Sections.{IsSection, section_items}
+use Rattle.lg_tile.specs.Tile.{tile_items, tile_rect}
+use Rattle.lg_tile.specs.Tiles.{IsTyped, number_at, numbers}
+use Rattle.lg_map.specs.Columns.{item_at, index_in, listed, typed_at, IsPartOf}
 
 -- a number of the type is what it is wrapped to
 pub wrapped_same : (t : DType) (x y : ℤ) → IsNumber t y → y ≡ x → x ≡ wrap t x
@@ -62,3 +67,16 @@ module _ {T : Type 0} (number : T → ℤ) (whole part : List (ℕ × ℕ)) (ite
           let at : item_at value out place ≡ wrap t (item_at number members place) =
               ap (λ l. get_or l place (pos 0)) made ∙ get_or-map-range_with_len (λ k. wrap t (item_at number members k)) 0 n place place (pos 0) (omega (arith, full, below)) (omega arith) in
           ap (wrap t) at ∙ wrap_same t (wrap t (item_at number members place)) (wrap_fits t (item_at number members place)) ∙ ap (wrap t) (section_number place below))
+
+-- ---- a tile of any type that has a known one
+
+module _ {T : Type 0} (number : T → ℤ) (dtype : DType) (tile : Tile T) (any : AnyTile) (is : IsTyped dtype number tile any) where
+  pub typed_number : (index : List ℕ) → typed_at number tile index ≡ number_at any index
+  typed_number index =
+      ap (λ l. get_or l (place_in (tile_rect tile) index) (pos 0)) (sym is.2) ∙ ap (λ r. get_or (numbers any) (place_in r index) (pos 0)) (sym is.1)
+
+  pub typed_part : (part : List (ℕ × ℕ)) (section : Section T) → IsSection (tile_rect tile) part (tile_items tile) (section_items section)
+      → IsPartOf number section part (number_at any)
+  typed_part part section cut =
+      (section_full number (tile_rect tile) part (tile_items tile) (section_items section) cut, λ place below.
+          section_number number (tile_rect tile) part (tile_items tile) (section_items section) cut place below ∙ typed_number (index_in part place))

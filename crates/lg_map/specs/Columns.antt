@@ -8,6 +8,7 @@ use Rattle.lg_elem.specs.declared.kinds.Compare.{Compare}
 use Rattle.lg_elem.specs.Operations.{compare_of}
 use Rattle.lg_elem.specs.Types.{wrap}
 use Rattle.lg_space.specs.Rectangle.{indices, place_in, volume_of}
+use Rattle.lg_tile.specs.declared.section.Section.{Section}
 use Rattle.lg_tile.specs.declared.tile.Tile.{Tile}
 use Rattle.lg_tile.specs.Sections.{section_items}
 use Rattle.lg_tile.specs.Tile.{tile_items, tile_rect}
@@ -46,6 +47,13 @@ Stands t number values rect f =
     Fills values (volume_of rect)
     × ((place : ℕ) → place < volume_of rect
     → wrap t (number_in number values place) ≡ wrap t (f (index_in rect place)))
+
+-- the section has, at each place of the rectangle, the number of its index
+abbrev pub IsPartOf : {T : Type 0} → (T → ℤ) → Section T → List (ℕ × ℕ) → (List ℕ → ℤ) → Type 0
+IsPartOf number part rect f =
+    (length (section_items part) ≡ volume_of rect)
+    × ((place : ℕ) → place < volume_of rect
+    → item_at number (section_items part) place ≡ f (index_in rect place))
 
 -- the tile has this rectangle, and at each index whether two numbers compare so
 abbrev pub IsTruths : Tile Bool → List (ℕ × ℕ) → Compare → (List ℕ → ℤ) → (List ℕ → ℤ) → Type 0

@@ -7,20 +7,20 @@ ghost use Rattle.lg_elem.specs.Types.{IsNumber};
 ghost use Rattle.lg_space.specs.Rectangle.{volume_of};
 ghost use Rattle.lg_tile.specs.Sections.{Covers};
 ghost use Rattle.lg_tile.specs.Tile.{tile_items, tile_rect};
-ghost use Rattle.lg_tile.specs.Tiles.{number_at, rect_of};
+ghost use Rattle.lg_tile.specs.Tiles.{dtype_of, number_at, rect_of};
 ghost use Rattle.lg_map.specs.declared.operation.MapOp.TheVariants as ops;
-ghost use Rattle.lg_map.specs.Columns.{IsTruths, item_at, listed, typed_at};
+ghost use Rattle.lg_map.specs.Columns.{IsTruths, item_at, listed};
 ghost use Rattle.lg_map.specs.Mapping.{IsConstant, IsOperand, Maps, operand_at};
 
 use crate::Operand;
 use crate::columns::Constant;
 use crate::loops::compared;
-use crate::operands::input;
+use crate::operands::{input, part_of};
 use lg_elem::kernels::{Eq, Ge, Gt, Le, Lt, Ne};
 use lg_elem::{Compare, Flag};
 use lg_outside::NoMemory;
 use lg_space::AnyRect;
-use lg_tile::{AnyTile, Tile, TileElem, each};
+use lg_tile::{AnyTile, Tile, TileElem, by_type};
 use std::alloc::Global;
 
 /// The comparison of two operands.
@@ -117,40 +117,43 @@ fn compare_tiles(
     ensures { IfOk result
         (λ tile. IsTruths tile rect.now op (number_at x.now) (number_at y.now)) }
 {
-    each!(x, x => compare_left(alloc, op, x, y, rect))
+    by_type!(x.dtype(), compare_left::<_>(alloc, op, x, y, rect))
 }
 
 // Two tiles, of which the first has a known type.
 fn compare_left<A: TileElem>(
     alloc: Global,
     op: Compare,
-    x: &Tile<A>,
+    x: &AnyTile,
     y: &AnyTile,
     rect: &AnyRect,
 ) -> Result<Tile<bool>, NoMemory>
-    requires first { Covers (tile_rect x.now) rect.now }
+    requires typed { dtype_of x.now ≡ A.DTYPE }
+    requires first { Covers (rect_of x.now) rect.now }
     requires second { Covers (rect_of y.now) rect.now }
     ensures { IfOk result
-        (λ tile. IsTruths tile rect.now op (typed_at A.number x.now) (number_at y.now)) }
+        (λ tile. IsTruths tile rect.now op (number_at x.now) (number_at y.now)) }
 {
-    each!(y, y => compare_typed(alloc, op, x, y, rect))
+    by_type!(y.dtype(), compare_typed::<_, A>(alloc, op, x, y, rect))
 }
 
 // Two tiles of known types.
-fn compare_typed<A: TileElem, B: TileElem>(
+fn compare_typed<B: TileElem, A: TileElem>(
     alloc: Global,
     op: Compare,
-    x: &Tile<A>,
-    y: &Tile<B>,
+    x: &AnyTile,
+    y: &AnyTile,
     rect: &AnyRect,
 ) -> Result<Tile<bool>, NoMemory>
-    requires first { Covers (tile_rect x.now) rect.now }
-    requires second { Covers (tile_rect y.now) rect.now }
+    requires left { dtype_of x.now ≡ A.DTYPE }
+    requires right { dtype_of y.now ≡ B.DTYPE }
+    requires first { Covers (rect_of x.now) rect.now }
+    requires second { Covers (rect_of y.now) rect.now }
     ensures { IfOk result
-        (λ tile. IsTruths tile rect.now op (typed_at A.number x.now) (typed_at B.number y.now)) }
+        (λ tile. IsTruths tile rect.now op (number_at x.now) (number_at y.now)) }
 {
-    let x = x.section(alloc, rect)?;
-    let y = y.section(alloc, rect)?;
+    let x = part_of::<A>(alloc, x, rect)?;
+    let y = part_of::<B>(alloc, y, rect)?;
     Ok(compare_lists::<A, B>(alloc, op, x.items(), y.items(), rect)?)
 }
 
@@ -205,23 +208,24 @@ fn compare_number(
     ensures { IfOk result
         (λ tile. IsTruths tile rect.now op (number_at x.now) (λ index. y)) }
 {
-    each!(x, x => compare_typed_number(alloc, op, x, y, rect))
+    by_type!(x.dtype(), compare_typed_number::<_>(alloc, op, x, y, rect))
 }
 
 // A tile of a known type and a number.
 fn compare_typed_number<A: TileElem>(
     alloc: Global,
     op: Compare,
-    x: &Tile<A>,
+    x: &AnyTile,
     y: i128,
     rect: &AnyRect,
 ) -> Result<Tile<bool>, NoMemory>
-    requires covers { Covers (tile_rect x.now) rect.now }
+    requires typed { dtype_of x.now ≡ A.DTYPE }
+    requires covers { Covers (rect_of x.now) rect.now }
     requires number { IsConstant y }
     ensures { IfOk result
-        (λ tile. IsTruths tile rect.now op (typed_at A.number x.now) (λ index. y)) }
+        (λ tile. IsTruths tile rect.now op (number_at x.now) (λ index. y)) }
 {
-    let x = x.section(alloc, rect)?;
+    let x = part_of::<A>(alloc, x, rect)?;
     Ok(compare_items::<A>(alloc, op, x.items(), y, rect)?)
 }
 

@@ -4,8 +4,8 @@ ghost use Rattle.lg_elem.specs.Types.{wrap};
 ghost use Rattle.lg_space.specs.Rectangle.{volume_of};
 ghost use Rattle.lg_tile.specs.Sections.{Covers};
 ghost use Rattle.lg_tile.specs.Tile.{tile_items, tile_rect};
-ghost use Rattle.lg_tile.specs.Tiles.{number_at, rect_of};
-ghost use Rattle.lg_map.specs.Columns.{Stands, item_at, listed, typed_at};
+ghost use Rattle.lg_tile.specs.Tiles.{dtype_of, number_at, rect_of};
+ghost use Rattle.lg_map.specs.Columns.{IsPartOf, Stands, item_at, listed, typed_at};
 ghost use Rattle.lg_map.specs.Mapping.{HasInput, IsOperand, operand_at};
 
 use crate::Operand;
@@ -76,6 +76,19 @@ fn read<'a, T: TileElem>(
         (λ values. Stands T.DTYPE T.number values rect.now (typed_at T.number tile.now)) }
 {
     Ok(Values::Items(tile.section(alloc, rect)?))
+}
+
+/// The elements of a tile over a rectangle, which has this type.
+pub fn part_of<'a, T: TileElem>(
+    alloc: Global,
+    tile: &'a AnyTile,
+    rect: &AnyRect,
+) -> Result<Section<'a, T>, NoMemory>
+    requires typed { dtype_of tile.now ≡ T.DTYPE }
+    requires covers { Covers (rect_of tile.now) rect.now }
+    ensures { IfOk result (λ part. IsPartOf T.number part rect.now (number_at tile.now)) }
+{
+    Ok(T::tile_of(tile).section(alloc, rect)?)
 }
 
 // The elements of a tile of another type.
