@@ -8,6 +8,11 @@ use Rattle.lg_elem.specs.declared.kinds.Compare.{Compare}
 use Rattle.lg_elem.specs.Operations.{compare_of}
 use Rattle.lg_elem.specs.Types.{wrap}
 use Rattle.lg_space.specs.Rectangle.{indices, place_in, volume_of}
+use Rattle.lg_elem.specs.declared.kinds.Flag.{Flag}
+use Rattle.lg_elem.specs.declared.kinds.Flag.TheVariants.{Clear}
+use Rattle.lg_shape.specs.Shapes.{place_of}
+use Rattle.lg_tile.specs.declared.any_tile.AnyTile.{AnyTile}
+use Rattle.lg_tile.specs.Tiles.{dtype_of, numbers, rect_of}
 use Rattle.lg_tile.specs.declared.section.Section.{Section}
 use Rattle.lg_tile.specs.declared.tile.Tile.{Tile}
 use Rattle.lg_tile.specs.Sections.{section_items}
@@ -54,6 +59,20 @@ IsPartOf number part rect f =
     (length (section_items part) ≡ volume_of rect)
     × ((place : ℕ) → place < volume_of rect
     → item_at number (section_items part) place ≡ f (index_in rect place))
+
+-- the tile has this rectangle, and at each index a number wrapped to type t
+abbrev pub IsCast : {T : Type 0} → DType → (T → ℤ) → Tile T → List (ℕ × ℕ) → (List ℕ → ℤ) → Type 0
+IsCast t number tile rect f =
+    (tile_rect tile ≡ rect)
+    × (map number (tile_items tile) ≡ map (λ index. wrap t (f index)) (indices rect))
+
+-- tile and flag are those of a list of numbers in row-major order of its shape
+abbrev pub IsListed : DType → List ℕ → List ℤ → List (ℕ × ℕ) → AnyTile × Flag → Type 0
+IsListed t shape list rect answer =
+    (dtype_of answer.0 ≡ t) × (rect_of answer.0 ≡ rect)
+    × (numbers answer.0
+    ≡ map (λ index. wrap t (slice_index_or list (place_of shape index) (pos 0))) (indices rect))
+    × (answer.1 ≡ Clear)
 
 -- the tile has this rectangle, and at each index whether two numbers compare so
 abbrev pub IsTruths : Tile Bool → List (ℕ × ℕ) → Compare → (List ℕ → ℤ) → (List ℕ → ℤ) → Type 0

@@ -8,6 +8,7 @@ mod binary;
 mod columns;
 mod compare;
 mod loops;
+mod making;
 mod operands;
 mod operation;
 mod select;

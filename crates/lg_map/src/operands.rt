@@ -106,8 +106,8 @@ fn cast<'a, A: TileElem, T: TileElem>(
     Ok(Values::Items(Section::Copied(items)))
 }
 
-// A tile of the elements of a list over its rectangle, as ones of another type.
-fn cast_items<A: TileElem, T: TileElem>(
+/// A tile of the elements of a list over its rectangle, as ones of another type.
+pub fn cast_items<A: TileElem, T: TileElem>(
     alloc: Global,
     items: &[A],
     rect: &AnyRect,

@@ -1,0 +1,4 @@
+use Rattle.lg_map.proofs.making.count_tile.Goals as goal
+
+pub returns : goal.returns
+returns g c = let e = c.in_ok-tile.ensures.items in let r = c.range.ensures in ?
