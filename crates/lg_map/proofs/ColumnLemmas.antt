@@ -1,14 +1,16 @@
 -- What is read at a place.
-use Rattle.std.proofs.Common.{◌≡◌, ℕ, zero, suc, ◌<◌, List, [], ◌∷◌, length, map, get_or, Option, Some, None, slice_get, unwrap_or, ℤ, pos, refl, sym, ap, ◌∙◌, arith}
+use Rattle.std.proofs.Common.{◌≡◌, ℕ, zero, suc, ◌+◌, ◌<◌, List, [], ◌∷◌, length, map, get_or, Option, Some, None, slice_get, unwrap_or, ℤ, pos, refl, sym, ap, ◌∙◌, arith}
 use Rattle.std.specs.Option.{option_map}
-use Rattle.std.proofs.lemmas.List.{length-map}
+use Rattle.std.proofs.lemmas.List.{length-map, map-id}
+use Rattle.std.proofs.lemmas.Int.{ints}
+use Rattle.std.specs.Prelude.{slice_index, ◌+ℤ◌}
 use Rattle.std.proofs.lemmas.List.FromFn.{length-map-range_with_len, get_or-map-range_with_len}
-use Rattle.std.proofs.lemmas.Option.{slice_get-map, slice_get-get_or, unwrap_or-slice_get, same_Some}
+use Rattle.std.proofs.lemmas.Option.{slice_get-map, slice_get-get_or, unwrap_or-slice_get, get_or_from_slice_get, same_Some}
 use Rattle.lg_elem.specs.declared.dtype.DType.{DType}
 use Rattle.lg_elem.specs.Types.{IsNumber, wrap}
 use Rattle.lg_elem.proofs.WrapLemmas.{wrap_same, wrap_fits}
 use Rattle.lg_space.specs.Rectangle.{indices, volume_of, place_in}
-use Rattle.lg_space.proofs.Places.{volume_counts}
+use Rattle.lg_space.proofs.Places.{volume_counts, stands_at_place}
 use Rattle.lg_tile.specs.declared.any_tile.AnyTile.{AnyTile}
 use Rattle.lg_tile.specs.declared.section.Section.{Section}
 use Rattle.lg_tile.specs.declared.tile.Tile.{Tile}
@@ -80,3 +82,27 @@ module _ {T : Type 0} (number : T → ℤ) (dtype : DType) (tile : Tile T) (any 
   typed_part part section cut =
       (section_full number (tile_rect tile) part (tile_items tile) (section_items section) cut, λ place below.
           section_number number (tile_rect tile) part (tile_items tile) (section_items section) cut place below ∙ typed_number (index_in part place))
+
+-- ---- lists and counts
+
+pub listed_number : (whole part : List (ℕ × ℕ)) (list members : List ℤ) → IsSection whole part list members → (place : ℕ) → place < volume_of part
+    → get_or members place (pos 0) ≡ get_or list (place_in whole (index_in part place)) (pos 0)
+listed_number whole part list members is place below =
+    ap (λ l. get_or l place (pos 0)) (sym (map-id members)) ∙ section_number (λ x. x) whole part list members is place below
+    ∙ ap (λ l. get_or l (place_in whole (index_in part place)) (pos 0)) (map-id list)
+
+pub count_index : (rect : List (ℕ × ℕ)) (r : ℕ × ℕ) → length rect ≡ 1 → slice_get rect 0 ≡ Some r → (place : ℕ) → place < volume_of rect
+    → slice_index (index_in rect place) 0 ≡ r.0 + place
+count_index [] r one at place below = absurd (omega arith)
+count_index (range ∷ []) r one at place below =
+    let index = (range.0 + place) ∷ [] in
+    let there : place_in (range ∷ []) index ≡ place = omega arith in
+    let found = ap (slice_get (indices (range ∷ []))) (sym there) ∙ stands_at_place (range ∷ []) index (omega arith, omega (arith, below), tt) in
+    ap (λ i. slice_index i 0) (get_or_from_slice_get (indices (range ∷ [])) place index [] found)
+    ∙ ap (λ s. s.0 + place) (same_Some range r at)
+count_index (range ∷ other ∷ rect) r one at place below = absurd (omega arith)
+
+pub count_number : (t : DType) (first : ℤ) (low place at : ℕ) → at ≡ low + place → wrap t ((first +ℤ pos low) +ℤ pos place) ≡ wrap t (first +ℤ pos at)
+count_number t first low place at is =
+    let sum : (first +ℤ pos low) +ℤ pos place ≡ first +ℤ pos (low + place) = omega (arith, ints) in
+    ap (wrap t) sum ∙ ap (λ n. wrap t (first +ℤ pos n)) (sym is)

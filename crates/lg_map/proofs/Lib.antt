@@ -1,4 +1,5 @@
 pub mod ColumnLemmas
+pub mod Constants
 pub mod FlagLemmas
 pub mod LoopLemmas
 pub mod MapLemmas

@@ -9,9 +9,11 @@ mod columns;
 mod compare;
 mod loops;
 mod making;
+mod mapping;
 mod operands;
 mod operation;
 mod select;
 mod unary;
 
+pub use mapping::map_tile;
 pub use operation::{MapOp, Operand};

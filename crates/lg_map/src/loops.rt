@@ -1,6 +1,6 @@
 //! What runs for each element: one loop for each number of operands. Each reads and writes by one
 //! index, with the operation as a type, so that it can be compiled to vector code.
-ghost use Rattle.std.specs.Prelude.{◌≡◌, ℕ, ◌+◌, ◌^◌, ◌<◌, ◌≤◌, length, map, slice_index_or, if◌then◌else◌, ℤ, pos, neg_ℤ, ◌+ℤ◌, ◌≤ℤ◌};
+ghost use Rattle.std.specs.Prelude.{◌≡◌, ℕ, ◌<◌, length, map, slice_index_or, if◌then◌else◌, pos, ◌+ℤ◌};
 ghost use Rattle.std.specs.Int.{from_bool};
 ghost use Rattle.std.specs.List.{list_any};
 ghost use Rattle.lg_elem.specs.Operations.{unary_of, value_of, compare_of, is_zero, is_negative};
@@ -127,28 +127,26 @@ pub fn wrapped<T: Elem>(out: &mut [T], numbers: &[i128])
     }
 }
 
-/// Puts the elements of the numbers from this one on in place.
+/// Puts in place the elements of the numbers from the one on that comes so many behind this one.
 #[inline(never)]
 #[tactic(auto, using(crate::proofs::LoopLemmas::one_more, crate::proofs::LoopLemmas::all_listed))]
-pub fn counted<T: Elem>(out: &mut [T], first: i128)
-    requires low { neg_ℤ (pos (2 ^ 64)) ≤ℤ first }
-    requires high { first ≤ℤ pos (2 ^ 65) }
+pub fn counted<T: Elem>(out: &mut [T], first: i128, low: u64)
+    requires { IsConstant first }
     ensures { map T.number out.new
-        ≡ listed (λ place. wrap T.DTYPE (first +ℤ pos place)) (length out.old) }
+        ≡ listed (λ place. wrap T.DTYPE ((first +ℤ pos low) +ℤ pos place)) (length out.old) }
 {
     for i in 0..out.len() {
-        out[i] = count_at(first, i);
+        out[i] = count_at(first, low, i);
     }
 }
 
-// The element of a number that comes so many behind another.
+// The element of a number that comes so many behind another, and so many more.
 #[inline]
-fn count_at<T: Elem>(first: i128, place: usize) -> T
-    requires low { neg_ℤ (pos (2 ^ 64)) ≤ℤ first }
-    requires high { first ≤ℤ pos (2 ^ 65) }
-    ensures { T.number result ≡ wrap T.DTYPE (first +ℤ pos place) }
+fn count_at<T: Elem>(first: i128, low: u64, place: usize) -> T
+    requires { IsConstant first }
+    ensures { T.number result ≡ wrap T.DTYPE ((first +ℤ pos low) +ℤ pos place) }
 {
-    T::wrap(first + place as i128)
+    T::wrap(first + i128::from(low) + place as i128)
 }
 
 /// Whether an element is 0.

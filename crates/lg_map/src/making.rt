@@ -1,5 +1,5 @@
 //! Operations that give an operand as it is, or take none.
-ghost use Rattle.std.specs.Prelude.{◌≡◌, ℕ, ◌^◌, ◌≤◌, [], length, map, IfOk, slice_index_or, pos, neg_ℤ, ◌+ℤ◌, ◌≤ℤ◌};
+ghost use Rattle.std.specs.Prelude.{◌≡◌, ℕ, ◌≤◌, [], length, map, IfOk, slice_index_or, pos, ◌+ℤ◌};
 ghost use Rattle.lg_elem.specs.Types.{wrap};
 ghost use Rattle.lg_space.specs.Rectangle.{volume_of};
 ghost use Rattle.lg_space.specs.Stored.{MAX_VOLUME};
@@ -111,20 +111,24 @@ pub fn count_tile<T: TileElem>(
     ensures { IfOk result (Maps (ops.Count first) T.DTYPE [] rect.now) }
 {
     let (low, _) = rect.range(0);
-    let tile = count_from::<T>(alloc, first + i128::from(low), rect)?;
+    let tile = count_from::<T>(alloc, first, low, rect)?;
     Ok((T::any(tile), Flag::Clear))
 }
 
-// The numbers from this one on, place by place.
-fn count_from<T: TileElem>(alloc: Global, first: i128, rect: &AnyRect) -> Result<Tile<T>, NoMemory>
-    requires low { neg_ℤ (pos (2 ^ 64)) ≤ℤ first }
-    requires high { first ≤ℤ pos (2 ^ 65) }
+// The numbers from the one on that comes so many behind this one, place by place.
+fn count_from<T: TileElem>(
+    alloc: Global,
+    first: i128,
+    low: u64,
+    rect: &AnyRect,
+) -> Result<Tile<T>, NoMemory>
+    requires { IsConstant first }
     ensures rect { IfOk result (λ tile. tile_rect tile ≡ rect.now) }
     ensures items { IfOk result (λ tile. map T.number (tile_items tile)
-        ≡ listed (λ place. wrap T.DTYPE (first +ℤ pos place)) (volume_of rect.now)) }
+        ≡ listed (λ place. wrap T.DTYPE ((first +ℤ pos low) +ℤ pos place)) (volume_of rect.now)) }
 {
     let mut tile = Tile::filled(alloc, rect, T::wrap(0))?;
-    counted::<T>(tile.items_mut(), first);
+    counted::<T>(tile.items_mut(), first, low);
     Ok(tile)
 }
 
@@ -138,7 +142,7 @@ pub fn list_tile<T: TileElem>(
     requires full { length numbers.now ≡ size_of shape.now }
     requires small { size_of shape.now ≤ MAX_VOLUME }
     requires covers { Covers (whole shape.now) rect.now }
-    ensures value { IfOk result (λ answer. IsListed T.DTYPE shape.now numbers.now rect.now answer) }
+    ensures { IfOk result (IsListed T.DTYPE shape.now numbers.now rect.now) }
 {
     let part = section_of(alloc, numbers, &shape.whole(), rect)?;
     let tile = wrap_each::<T>(alloc, part.items(), rect)?;

@@ -10,4 +10,4 @@ use Rattle.lg_map.proofs.loops.counted.Given as goal
 
 abbrev pub invariant-loop-i : goal.invariant-loop-i
 invariant-loop-i g l =
-    map g.T.Elem.number (take l.i l.out) ≡ listed (λ place. wrap g.T.Elem.DTYPE (l.first +ℤ pos place)) l.i
+    map g.T.Elem.number (take l.i l.out) ≡ listed (λ place. wrap g.T.Elem.DTYPE ((l.first +ℤ pos l.low) +ℤ pos place)) l.i
