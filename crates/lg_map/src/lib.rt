@@ -7,6 +7,7 @@
 mod binary;
 mod columns;
 mod compare;
+pub mod examples;
 mod loops;
 mod making;
 mod mapping;
@@ -17,3 +18,6 @@ mod unary;
 
 pub use mapping::map_tile;
 pub use operation::{MapOp, Operand};
+
+#[cfg(test)]
+mod tests;
