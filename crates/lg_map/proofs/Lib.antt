@@ -3,3 +3,4 @@ pub mod Constants
 pub mod FlagLemmas
 pub mod LoopLemmas
 pub mod MapLemmas
+pub mod TestLemmas
