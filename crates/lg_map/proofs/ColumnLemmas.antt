@@ -1,5 +1,5 @@
 -- What is read at a place.
-use Rattle.std.proofs.Common.{◌≡◌, ℕ, zero, suc, ◌+◌, ◌<◌, List, [], ◌∷◌, length, map, get_or, Option, Some, None, slice_get, unwrap_or, ℤ, pos, refl, sym, ap, ◌∙◌, arith}
+use Rattle.std.proofs.Common.{◌≡◌, ℕ, zero, suc, ◌+◌, ◌<◌, List, [], ◌∷◌, length, map, get_or, Option, Some, None, slice_get, unwrap_or, ℤ, pos, sym, ap, ◌∙◌, arith}
 use Rattle.std.specs.Option.{option_map}
 use Rattle.std.proofs.lemmas.List.{length-map, map-id}
 use Rattle.std.proofs.lemmas.Int.{ints}
@@ -64,11 +64,13 @@ module _ {T : Type 0} (number : T → ℤ) (whole part : List (ℕ × ℕ)) (ite
   pub cast_stands : {B : Type 0} (value : B → ℤ) (t : DType) (out : List B) (n : ℕ) → n ≡ volume_of part → map value out ≡ listed (λ place. wrap t (item_at number members place)) n
       → (length out ≡ volume_of part)
       × ((place : ℕ) → place < volume_of part → wrap t (item_at value out place) ≡ wrap t (item_at number items (place_in whole (index_in part place))))
-  cast_stands value t out n full made =
-      (sym (length-map out value) ∙ ap length made ∙ length-map-range_with_len _ 0 n ∙ full, λ place below.
-          let at : item_at value out place ≡ wrap t (item_at number members place) =
-              ap (λ l. get_or l place (pos 0)) made ∙ get_or-map-range_with_len (λ k. wrap t (item_at number members k)) 0 n place place (pos 0) (omega (arith, full, below)) (omega arith) in
-          ap (wrap t) at ∙ wrap_same t (wrap t (item_at number members place)) (wrap_fits t (item_at number members place)) ∙ ap (wrap t) (section_number place below))
+  cast_stands value t out n full made = (
+    sym (length-map out value) ∙ ap length made ∙ length-map-range_with_len _ 0 n ∙ full,
+    λ place below.
+        let at : item_at value out place ≡ wrap t (item_at number members place) =
+        ap (λ l. get_or l place (pos 0)) made ∙ get_or-map-range_with_len (λ k. wrap t (item_at number members k)) 0 n place place (pos 0) (omega (arith, full, below)) (omega arith) in
+        ap (wrap t) at ∙ wrap_same t (wrap t (item_at number members place)) (wrap_fits t (item_at number members place)) ∙ ap (wrap t) (section_number place below),
+  )
 
 -- ---- a tile of any type that has a known one
 
@@ -79,9 +81,11 @@ module _ {T : Type 0} (number : T → ℤ) (dtype : DType) (tile : Tile T) (any 
 
   pub typed_part : (part : List (ℕ × ℕ)) (section : Section T) → IsSection (tile_rect tile) part (tile_items tile) (section_items section)
       → IsPartOf number section part (number_at any)
-  typed_part part section cut =
-      (section_full number (tile_rect tile) part (tile_items tile) (section_items section) cut, λ place below.
-          section_number number (tile_rect tile) part (tile_items tile) (section_items section) cut place below ∙ typed_number (index_in part place))
+  typed_part part section cut = (
+    section_full number (tile_rect tile) part (tile_items tile) (section_items section) cut,
+    λ place below.
+        section_number number (tile_rect tile) part (tile_items tile) (section_items section) cut place below ∙ typed_number (index_in part place),
+  )
 
 -- ---- lists and counts
 

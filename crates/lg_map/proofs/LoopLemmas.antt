@@ -1,6 +1,6 @@
 -- The steps of a loop that writes at each place.
 use Rattle.std.proofs.Common.{◌≡◌, ℕ, ◌+◌, ◌<◌, ◌≤◌, List, [], ◌∷◌, ◌++◌, length, map, take, Bool, true, false, ◌||◌, refl, sym, ap, ◌∙◌, arith}
-use Rattle.std.specs.List.{range_with_len, slice_set, list_any}
+use Rattle.std.specs.List.{slice_set, list_any}
 use Rattle.std.proofs.lemmas.List.{take_more_set, map-append, take_all}
 use Rattle.std.proofs.lemmas.List.FromFn.{map-range_with_len_more}
 use Rattle.std.proofs.lemmas.List.Folds.{list_any-append}

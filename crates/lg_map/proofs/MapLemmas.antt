@@ -1,5 +1,5 @@
 -- From places to indices.
-use Rattle.std.proofs.Common.{◌≡◌, ℕ, ◌<◌, List, [], ◌∷◌, length, map, replicate, get_or, zero, suc, Bool, ℤ, pos, negsuc, refl, sym, ap, ◌∙◌, arith}
+use Rattle.std.proofs.Common.{◌≡◌, ℕ, ◌<◌, List, [], ◌∷◌, length, map, replicate, zero, suc, Bool, ℤ, pos, negsuc, refl, sym, ap, ◌∙◌, arith}
 use Rattle.std.proofs.lemmas.Int.{ints}
 use Rattle.std.proofs.lemmas.List.{length-map, get_or-map}
 use Rattle.std.proofs.lemmas.List.FromFn.{fill_by_all}
@@ -12,6 +12,7 @@ use Rattle.lg_elem.specs.declared.kinds.Compare.{Compare}
 use Rattle.lg_elem.specs.Operations.{is_zero, compare_of}
 use Rattle.lg_elem.specs.Types.{wrap}
 use Rattle.lg_tile.proofs.NumberLemmas.{map_filled}
+use Rattle.lg_tile.proofs.SectionLemmas.{map_along}
 use Rattle.lg_tile.specs.declared.tile.Tile.{Tile}
 use Rattle.lg_map.specs.Columns.{listed, index_in, IsTruths}
 
@@ -20,11 +21,7 @@ pub by_indices : {A : Type 0} (rect : List (ℕ × ℕ)) (h : ℕ → A) (f : Li
     → listed h (volume_of rect) ≡ map f (indices rect)
 by_indices rect h f same =
     sym (fill_by_all h (map f (indices rect)) (volume_of rect) (f []) (length-map (indices rect) f ∙ volume_counts rect) (λ place below.
-        get_or-map f (indices rect) place [] (f []) (omega (arith, below, volume_counts rect)) ∙ sym (same place below)))
-
-pub map-map : {A B C : Type 0} (f : B → C) (h : A → B) (xs : List A) → map f (map h xs) ≡ map (λ x. f (h x)) xs
-map-map f h [] = refl
-map-map f h (x ∷ xs) = ap (f (h x) ∷◌) (map-map f h xs)
+    get_or-map f (indices rect) place [] (f []) (omega (arith, below, volume_counts rect)) ∙ sym (same place below)))
 
 -- the same number at each index
 pub same_at_each : {T : Type 0} (number : T → ℤ) (rect : List (ℕ × ℕ)) (items : List T) (x : T) (y : ℤ) → items ≡ replicate (volume_of rect) x → number x ≡ y
@@ -55,8 +52,4 @@ chosen_same {b = b} {x = x} {y = y} {v = v} choice first second =
 pub mirrored_truths : (tile : Tile Bool) (rect : List (ℕ × ℕ)) (op other : Compare) (f g : List ℕ → ℤ) → ((x y : ℤ) → compare_of other y x ≡ compare_of op x y)
     → IsTruths tile rect other g f → IsTruths tile rect op f g
 mirrored_truths tile rect op other f g same is =
-    (is.0, is.1 ∙ map_same _ _ (indices rect) (λ index. ap (λ b. pos (from_bool b)) (same (f index) (g index))))
-  where
-    map_same : {A B : Type 0} (f h : A → B) (xs : List A) → ((x : A) → f x ≡ h x) → map f xs ≡ map h xs
-    map_same f h [] same = refl
-    map_same f h (x ∷ xs) same = ap (λ y. y ∷ map f xs) (same x) ∙ ap (h x ∷◌) (map_same f h xs same)
+    (is.0, is.1 ∙ map_along _ _ (indices rect) (λ k index there. ap (λ b. pos (from_bool b)) (same (f index) (g index))))

@@ -130,7 +130,11 @@ fn divisor_fault<T: TileElem>(y: &Values<T>, count: usize) -> Flag
     ensures { result ≡ first_flag (map divisor_flag_of
         (listed (λ place. wrap T.DTYPE (number_in T.number y.now place)) count)) }
 {
-    if has_zero(y, count) { Flag::Divisor } else { Flag::Clear }
+    if has_zero(y, count) {
+        Flag::Divisor
+    } else {
+        Flag::Clear
+    }
 }
 
 // The first flag of a power.
@@ -140,7 +144,11 @@ fn power_fault<T: TileElem>(y: &Values<T>, count: usize) -> Flag
     ensures { result ≡ first_flag (map power_flag_of
         (listed (λ place. wrap T.DTYPE (number_in T.number y.now place)) count)) }
 {
-    if has_negative(y, count) { Flag::Power } else { Flag::Clear }
+    if has_negative(y, count) {
+        Flag::Power
+    } else {
+        Flag::Clear
+    }
 }
 
 // Whether an element is 0.

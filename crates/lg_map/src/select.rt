@@ -82,12 +82,7 @@ fn select<T: TileElem>(out: &mut [T], choice: &Values<bool>, x: &Values<T>, y: &
 }
 
 // Picks the loop of the operands' kinds.
-fn select_by<T: TileElem, C: Column<bool>>(
-    out: &mut [T],
-    choice: C,
-    x: &Values<T>,
-    y: &Values<T>,
-)
+fn select_by<T: TileElem, C: Column<bool>>(out: &mut [T], choice: C, x: &Values<T>, y: &Values<T>)
     requires choice { (place : ℕ) → place < length out.old → C.reaches choice place }
     requires first { Fills x.now (length out.old) }
     requires second { Fills y.now (length out.old) }

@@ -63,7 +63,7 @@ map-flat_map : {A B C : Type 0} (f : B → C) (h : A → List B) (xs : List A) �
 map-flat_map f h [] = refl
 map-flat_map f h (x ∷ xs) = map-append f (h x) (flat_map h xs) ∙ ap (map f (h x) ++◌) (map-flat_map f h xs)
 
-map-map : {A B C : Type 0} (f : B → C) (h : A → B) (xs : List A) → map f (map h xs) ≡ map (λ x. f (h x)) xs
+pub map-map : {A B C : Type 0} (f : B → C) (h : A → B) (xs : List A) → map f (map h xs) ≡ map (λ x. f (h x)) xs
 map-map f h [] = refl
 map-map f h (x ∷ xs) = ap (f (h x) ∷◌) (map-map f h xs)
 

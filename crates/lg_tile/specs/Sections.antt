@@ -1,6 +1,6 @@
 -- The part of a list of items that lie over a rectangle. After NumPy's reference, "Slicing and
 -- striding", on ranges alone.
-use Rattle.std.specs.Prelude.{◌≡◌, ℕ, ◌≤◌, List, [], ◌∷◌, map, Some, slice_get}
+use Rattle.std.specs.Prelude.{◌≡◌, ℕ, List, map, Some, slice_get}
 use Rattle.lg_space.specs.Rectangle.{IsIn, indices, place_in}
 use Rattle.lg_tile.specs.declared.section.Section.{Section}
 use Rattle.lg_tile.specs.declared.section.Section.TheVariants.{Lent, Copied}

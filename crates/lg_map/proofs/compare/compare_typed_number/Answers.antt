@@ -14,10 +14,9 @@ pub returns : goal.returns
 returns g c =
     let op = c.args.op in
     let fits : SFits w128 c.args.y = c.ranges.y in
-    let items = simp to_z-of_z at c.in_ok-compare_items.ensures.items in
-    (
+    let items = simp to_z-of_z at c.in_ok-compare_items.ensures.items in (
       c.in_ok-compare_items.ensures.rect,
       items
-      ∙ by_indices c.args.rect.now _ (λ index. pos (from_bool (compare_of op (number_at c.args.x.now index) c.args.y))) (λ place below.
+          ∙ by_indices c.args.rect.now _ (λ index. pos (from_bool (compare_of op (number_at c.args.x.now index) c.args.y))) (λ place below.
           ap (λ n. pos (from_bool (compare_of op n c.args.y))) (ap (λ l. item_at g.A.Elem.number l place) c.items.ensures ∙ c.in_ok-x.ensures.1 place below)),
     )

@@ -1,9 +1,6 @@
 use Rattle.std.proofs.Common.{◌≡◌, map, take}
-use Rattle.std.specs.List.{list_any}
-use Rattle.std.specs.Prelude.{if◌then◌else◌, pos, ◌+ℤ◌, slice_index_or}
-use Rattle.std.specs.Int.{from_bool}
-use Rattle.lg_elem.specs.declared.dtype.DType.TheVariants.{Bool as Truth}
-use Rattle.lg_elem.specs.Operations.{unary_of, value_of, compare_of, is_zero, is_negative}
+use Rattle.std.specs.Prelude.{if◌then◌else◌}
+use Rattle.lg_elem.specs.Operations.{is_zero}
 use Rattle.lg_elem.specs.Types.{wrap}
 use Rattle.lg_map.specs.Columns.{listed}
 use Rattle.lg_map.proofs.loops.chosen.Given as goal

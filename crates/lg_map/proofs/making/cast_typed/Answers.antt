@@ -10,10 +10,9 @@ cast_items-requires g c = ap length c.items.ensures ∙ c.in_ok-part.ensures.0
 
 pub returns : goal.returns
 returns g c =
-    let t = g.T.Elem.DTYPE in
-    (
+    let t = g.T.Elem.DTYPE in (
       c.in_ok-cast_items.ensures.rect,
       c.in_ok-cast_items.ensures.items
-      ∙ by_indices c.args.rect.now _ (λ index. wrap t (number_at c.args.tile.now index)) (λ place below.
+          ∙ by_indices c.args.rect.now _ (λ index. wrap t (number_at c.args.tile.now index)) (λ place below.
           ap (wrap t) (ap (λ l. item_at g.A.Elem.number l place) c.items.ensures ∙ c.in_ok-part.ensures.1 place below)),
     )

@@ -17,12 +17,11 @@ returns g c =
     let first = c.args.first in
     let range = c.range-low.result in
     let fits : SFits w128 c.args.first = c.ranges.first in
-    let items = simp to_z-of_z at c.in_ok-tile.ensures.items in
-    (
+    let items = simp to_z-of_z at c.in_ok-tile.ensures.items in (
       c.any.ensures.0,
       c.any.ensures.1 ∙ c.in_ok-tile.ensures.rect,
       c.any.ensures.2 ∙ items
-      ∙ by_indices rect _ (λ index. wrap t (first +ℤ pos (slice_index index 0)))
-      (λ place below. count_number t first range.0 place (slice_index (index_in rect place) 0) (count_index rect range c.requires.one c.range-low.ensures place below)),
+          ∙ by_indices rect _ (λ index. wrap t (first +ℤ pos (slice_index index 0)))
+          (λ place below. count_number t first range.0 place (slice_index (index_in rect place) 0) (count_index rect range c.requires.one c.range-low.ensures place below)),
       sym (no_flags (indices rect)),
     )

@@ -1,4 +1,4 @@
-use Rattle.std.proofs.Common.{sym, ap, map, SFits, ◌∙◌}
+use Rattle.std.proofs.Common.{sym, SFits, ◌∙◌}
 use Rattle.std.proofs.lemmas.Int.{to_z-of_z}
 use Rattle.std.specs.Int.{w128}
 use Rattle.lg_space.specs.Rectangle.{indices}

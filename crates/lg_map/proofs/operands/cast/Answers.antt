@@ -11,7 +11,7 @@ returns g c =
     let tile = c.args.tile.now in
     let n = volume_of c.args.rect.now in
     let made : map g.T.Elem.number c.into_items-items.result.items ≡ listed (λ place. wrap g.T.Elem.DTYPE (item_at g.A.Elem.number (section_items c.in_ok-section.section) place)) n =
-        ap (map g.T.Elem.number) c.into_items-items.ensures ∙ c.in_ok-cast_items.ensures.items ∙ ap (λ l. listed (λ place. wrap g.T.Elem.DTYPE (item_at g.A.Elem.number l place)) n) c.items.ensures in
+    ap (map g.T.Elem.number) c.into_items-items.ensures ∙ c.in_ok-cast_items.ensures.items ∙ ap (λ l. listed (λ place. wrap g.T.Elem.DTYPE (item_at g.A.Elem.number l place)) n) c.items.ensures in
     cast_stands g.A.Elem.number tile.rect c.args.rect.now tile.items.items (section_items c.in_ok-section.section) c.in_ok-section.ensures g.T.Elem.number g.T.Elem.DTYPE c.into_items-items.result.items n refl made
 
 pub cast_items-requires : goal.cast_items-requires

@@ -1,4 +1,4 @@
-use Rattle.std.proofs.Common.{◌≡◌, ◌<◌, ◌++◌, [], arith, subst, sym, ap, ◌∙◌}
+use Rattle.std.proofs.Common.{◌≡◌, ◌<◌, ◌++◌, arith, subst, sym, ap, ◌∙◌}
 use Rattle.lg_space.specs.Rectangle.{volume_of}
 use Rattle.lg_tile.specs.Blocks.{section}
 use Rattle.lg_tile.specs.Sections.{IsSection}

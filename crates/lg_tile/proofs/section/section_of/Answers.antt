@@ -1,4 +1,4 @@
-use Rattle.std.proofs.Common.{◌≡◌, sym, ◌∙◌}
+use Rattle.std.proofs.Common.{sym, ◌∙◌}
 use Rattle.std.proofs.lemmas.Slice.Eq.{slice_eq-Decides}
 use Rattle.lg_tile.proofs.SectionLemmas.{whole_section, same_ranges}
 use Rattle.lg_tile.proofs.section.section_of.Goals as goal

@@ -1,4 +1,4 @@
-use Rattle.std.proofs.Common.{sym, ap, ◌∙◌}
+use Rattle.std.proofs.Common.{ap, ◌∙◌}
 use Rattle.lg_elem.specs.Types.{wrap}
 use Rattle.lg_map.proofs.ColumnLemmas.{item_read, wrapped_same}
 use Rattle.lg_map.proofs.columns.RefSliceColumn.at.Goals as goal
