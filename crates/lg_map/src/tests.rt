@@ -7,8 +7,10 @@ ghost use Rattle.lg_map.specs.Mapping.{IsMap, IsOperand};
 use crate::examples::{flags_by_example, lists_by_example, values_by_example};
 use crate::{MapOp, Operand, map_tile};
 use lg_elem::{Binary, Compare, DType, Flag, Unary};
+use lg_shape::Shape;
 use lg_space::{AnyRect, Point};
 use lg_tile::{AnyTile, Tile, TileElem};
+use sqlite_items::Items;
 use std::alloc::Global;
 use std::process::Abort;
 use std::test::Fail;
@@ -48,7 +50,14 @@ fn numbers_alone(rt: HostRuntime) -> Result<(), Fail> {
     let minus = MapOp::Binary(Binary::Sub, seven, two);
     runs(&rt, alloc, &minus, DType::UInt8, &[5, 5, 5], Flag::Clear)?;
     let quotient = MapOp::Binary(Binary::FloorDiv, seven, Operand::Constant(0));
-    runs(&rt, alloc, &quotient, DType::Int32, &[0, 0, 0], Flag::Divisor)?;
+    runs(
+        &rt,
+        alloc,
+        &quotient,
+        DType::Int32,
+        &[0, 0, 0],
+        Flag::Divisor,
+    )?;
     let power = MapOp::Binary(Binary::Pow, seven, Operand::Constant(-1));
     runs(&rt, alloc, &power, DType::Int16, &[0, 0, 0], Flag::Power)
 }
@@ -57,14 +66,42 @@ fn numbers_alone(rt: HostRuntime) -> Result<(), Fail> {
 fn values_of_other_operations(rt: HostRuntime) -> Result<(), Fail> {
     let alloc = rt.alloc();
     let (seven, two) = (Operand::Constant(7), Operand::Constant(2));
-    runs(&rt, alloc, &MapOp::Unary(Unary::Neg, seven), DType::Int8, &[-7, -7, -7], Flag::Clear)?;
+    runs(
+        &rt,
+        alloc,
+        &MapOp::Unary(Unary::Neg, seven),
+        DType::Int8,
+        &[-7, -7, -7],
+        Flag::Clear,
+    )?;
     let less = MapOp::Compare(Compare::Lt, two, seven);
     runs(&rt, alloc, &less, DType::Bool, &[1, 1, 1], Flag::Clear)?;
     let choice = MapOp::Select(Operand::Constant(0), seven, two);
     runs(&rt, alloc, &choice, DType::UInt16, &[2, 2, 2], Flag::Clear)?;
-    runs(&rt, alloc, &MapOp::Cast(Operand::Constant(300)), DType::UInt8, &[44, 44, 44], Flag::Clear)?;
-    runs(&rt, alloc, &MapOp::Fill(-1), DType::UInt8, &[255, 255, 255], Flag::Clear)?;
-    runs(&rt, alloc, &MapOp::Count(-5), DType::Int64, &[-2, -1, 0], Flag::Clear)
+    runs(
+        &rt,
+        alloc,
+        &MapOp::Cast(Operand::Constant(300)),
+        DType::UInt8,
+        &[44, 44, 44],
+        Flag::Clear,
+    )?;
+    runs(
+        &rt,
+        alloc,
+        &MapOp::Fill(-1),
+        DType::UInt8,
+        &[255, 255, 255],
+        Flag::Clear,
+    )?;
+    runs(
+        &rt,
+        alloc,
+        &MapOp::Count(-5),
+        DType::Int64,
+        &[-2, -1, 0],
+        Flag::Clear,
+    )
 }
 
 // A tile of one axis that begins at index 10.
@@ -109,10 +146,37 @@ fn parts_of_tiles(rt: HostRuntime) -> Result<(), Fail> {
     let (x, y) = (Operand::Input(0), Operand::Input(1));
     let quotient = MapOp::Binary(Binary::FloorDiv, x, y);
     let (large, small) = ([-7_i64, -7, 7, 7], [0_i8, 2, -2, 0]);
-    over_rows(&rt, alloc, &quotient, &large, &small, DType::Int64, &[-4, -4], Flag::Clear)?;
+    over_rows(
+        &rt,
+        alloc,
+        &quotient,
+        &large,
+        &small,
+        DType::Int64,
+        &[-4, -4],
+        Flag::Clear,
+    )?;
     let rest = MapOp::Binary(Binary::Rem, x, y);
-    over_rows(&rt, alloc, &rest, &large, &small, DType::Int64, &[1, -1], Flag::Clear)?;
-    over_rows(&rt, alloc, &rest, &large, &[1_i8, 3, 0, 1], DType::Int64, &[2, 0], Flag::Divisor)
+    over_rows(
+        &rt,
+        alloc,
+        &rest,
+        &large,
+        &small,
+        DType::Int64,
+        &[1, -1],
+        Flag::Clear,
+    )?;
+    over_rows(
+        &rt,
+        alloc,
+        &rest,
+        &large,
+        &[1_i8, 3, 0, 1],
+        DType::Int64,
+        &[2, 0],
+        Flag::Divisor,
+    )
 }
 
 #[test]
@@ -121,15 +185,81 @@ fn tiles_of_two_types(rt: HostRuntime) -> Result<(), Fail> {
     let (x, y) = (Operand::Input(0), Operand::Input(1));
     let (bytes, signed) = ([1_u8, 255, 200, 3], [0_i16, -1, 300, 9]);
     let sum = MapOp::Binary(Binary::Add, x, y);
-    over_rows(&rt, alloc, &sum, &bytes, &signed, DType::Int16, &[254, 500], Flag::Clear)?;
-    over_rows(&rt, alloc, &sum, &bytes, &signed, DType::UInt8, &[254, 244], Flag::Clear)?;
+    over_rows(
+        &rt,
+        alloc,
+        &sum,
+        &bytes,
+        &signed,
+        DType::Int16,
+        &[254, 500],
+        Flag::Clear,
+    )?;
+    over_rows(
+        &rt,
+        alloc,
+        &sum,
+        &bytes,
+        &signed,
+        DType::UInt8,
+        &[254, 244],
+        Flag::Clear,
+    )?;
     let greater = MapOp::Compare(Compare::Gt, x, y);
-    over_rows(&rt, alloc, &greater, &bytes, &signed, DType::Bool, &[1, 0], Flag::Clear)?;
+    over_rows(
+        &rt,
+        alloc,
+        &greater,
+        &bytes,
+        &signed,
+        DType::Bool,
+        &[1, 0],
+        Flag::Clear,
+    )?;
     let from_number = MapOp::Compare(Compare::Lt, Operand::Constant(254), x);
-    over_rows(&rt, alloc, &from_number, &bytes, &signed, DType::Bool, &[1, 0], Flag::Clear)?;
+    over_rows(
+        &rt,
+        alloc,
+        &from_number,
+        &bytes,
+        &signed,
+        DType::Bool,
+        &[1, 0],
+        Flag::Clear,
+    )?;
     let choice = MapOp::Select(y, x, Operand::Constant(5));
-    over_rows(&rt, alloc, &choice, &bytes, &[1_i16, 256, 0, 1], DType::UInt8, &[255, 5], Flag::Clear)?;
-    over_rows(&rt, alloc, &MapOp::Cast(y), &bytes, &signed, DType::Int8, &[-1, 44], Flag::Clear)
+    over_rows(
+        &rt,
+        alloc,
+        &choice,
+        &bytes,
+        &[1_i16, 256, 0, 1],
+        DType::UInt8,
+        &[255, 5],
+        Flag::Clear,
+    )?;
+    over_rows(
+        &rt,
+        alloc,
+        &MapOp::Cast(y),
+        &bytes,
+        &signed,
+        DType::Int8,
+        &[-1, 44],
+        Flag::Clear,
+    )
+}
+
+// The numbers of an array from the second on.
+#[tactic(auto, using(lg_tile::proofs::SectionLemmas::part_covers))]
+#[test]
+fn list_in_row_major_order(rt: HostRuntime) -> Result<(), Fail> {
+    let alloc = rt.alloc();
+    let list = MapOp::List(Shape::new(&[3]), Items::from_slice(alloc, &[5, 300, -1])?);
+    let (tile, flag) = map_tile(alloc, &list, &[], &AnyRect::new(&[(1, 3)]), DType::UInt8)?;
+    assert_eq!(rt; flag, Flag::Clear);
+    holds(&rt, &tile, DType::UInt8, 1, &[44, 255]);
+    Ok(())
 }
 
 // The examples have no body; that they can be called is all that there is to try.
