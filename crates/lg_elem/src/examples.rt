@@ -1,5 +1,7 @@
 //! Worked examples of the definitions. Each clause is computed by the check, so a definition that
-//! says something else is refused, also where the code says the same. The values are NumPy's.
+//! says something else is refused, also where the code says the same. The values are NumPy's, and
+//! this project's own where a divisor is 0, an exponent is below 0 or a shift is by no place of the
+//! type, and in which operations bool has.
 ghost use Rattle.std.specs.Prelude.{◌≡◌, ◌*◌, ◌^◌, true, false, pos, negsuc};
 ghost use Rattle.lg_elem.specs.declared.dtype.DType.TheVariants.{Bool, Int8, Int16, Int32, Int64, UInt8, UInt16, UInt32, UInt64};
 ghost use Rattle.lg_elem.specs.declared.kinds.Unary.TheVariants.{Neg, Invert, Abs};

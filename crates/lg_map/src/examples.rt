@@ -1,5 +1,6 @@
-//! Worked examples of the definitions, by NumPy's rules. Each clause is computed by the check, so a
-//! definition that says another number is refused.
+//! Worked examples of the definitions. Each clause is computed by the check, so a definition that
+//! says another number is refused. The values are NumPy's, and this project's own where a flag is
+//! set or a number that the type lacks is wrapped.
 ghost use Rattle.std.specs.Prelude.{◌≡◌, [], ◌∷◌, pos, negsuc};
 ghost use Rattle.lg_elem.specs.declared.dtype.DType.TheVariants as types;
 ghost use Rattle.lg_elem.specs.declared.kinds.Binary.TheVariants as binaries;

@@ -37,6 +37,6 @@ abbrev pub IsTransitive : Type 0
 IsTransitive = (a b c : DType) → is_same_kind a b ≡ true → is_same_kind b c ≡ true
     → is_same_kind a c ≡ true
 
--- a type that has all numbers of another is of the same kind, or the other way the kind falls
+-- going from a type to one that has all its numbers keeps the kind
 abbrev pub HoldsKind : Type 0
 HoldsKind = (a u : DType) → HoldsAll u a → is_same_kind a u ≡ true

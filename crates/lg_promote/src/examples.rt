@@ -1,6 +1,6 @@
 //! Worked examples of the definitions. Each clause is computed by the check, so a definition that
-//! says something else is refused, also where the code says the same. The values are NumPy's, but
-//! that it has floats.
+//! says something else is refused, also where the code says the same. The values are NumPy's, and
+//! this project's own where NumPy has a float: there is no common type then.
 ghost use Rattle.std.specs.Prelude.{◌≡◌, true, false, pos, negsuc, Some, None};
 ghost use Rattle.lg_elem.specs.declared.dtype.DType.TheVariants.{Bool, Int8, Int16, Int32, Int64, UInt8, UInt16, UInt32, UInt64};
 ghost use Rattle.lg_promote.specs.Kinds.{is_same_kind};

@@ -1,5 +1,6 @@
 //! Worked examples of the definitions. Each clause is computed by the check, so a definition that
-//! says something else is refused. The values are NumPy's.
+//! says something else is refused. The values are NumPy's, and this project's own in the steps of
+//! slices, the limit of axes and the order of faults.
 ghost use Rattle.std.specs.Prelude.{◌≡◌, [], ◌∷◌, pos, negsuc, Some, None};
 ghost use Rattle.lg_shape.specs.Indexing.{indexed, index_fault};
 ghost use Rattle.lg_shape.specs.Views.{whole_layout, stepped, all_stepped};
