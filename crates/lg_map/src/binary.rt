@@ -1,6 +1,7 @@
 //! Operations on two operands.
 ghost use Rattle.std.specs.Prelude.{◌≡◌, ℕ, length, map, IfOk};
 ghost use Rattle.std.specs.List.{list_any};
+ghost use Rattle.lg_elem.specs.declared.kinds.Binary.TheVariants as kinds;
 ghost use Rattle.lg_elem.specs.Operations.{divisor_flag_of, flag_of, is_negative, is_zero, power_flag_of, value_of};
 ghost use Rattle.lg_elem.specs.Types.{wrap};
 ghost use Rattle.lg_space.specs.Rectangle.{volume_of};
@@ -11,8 +12,9 @@ ghost use Rattle.lg_map.specs.Mapping.{IsOperand, Maps, first_flag};
 
 use crate::Operand;
 use crate::columns::{Constant, Values};
-use crate::loops::{any_negative, any_zero, both};
+use crate::loops::{any_negative, any_zero, both, divided, remainders};
 use crate::operands::operand;
+use lg_divide::Divide;
 use lg_elem::kernels::{
     Add, BitAnd, BitOr, BitXor, FloorDiv, Kernel, Max, Min, Mul, Pow, Rem, Shl, Shr, Sub,
 };
@@ -23,7 +25,7 @@ use lg_tile::{AnyTile, Tile, TileElem};
 use std::alloc::Global;
 
 /// The operation on two operands, with results of a known type.
-pub fn binary_tile<'a, T: TileElem>(
+pub fn binary_tile<'a, T: TileElem + Divide>(
     alloc: Global,
     op: Binary,
     x: &Operand,
@@ -44,7 +46,7 @@ pub fn binary_tile<'a, T: TileElem>(
 }
 
 // The tile of the results.
-fn combined<T: TileElem>(
+fn combined<T: TileElem + Divide>(
     alloc: Global,
     op: Binary,
     x: &Values<T>,
@@ -64,7 +66,7 @@ fn combined<T: TileElem>(
 }
 
 // Picks the loop of the operation.
-fn combine<T: TileElem>(op: Binary, out: &mut [T], x: &Values<T>, y: &Values<T>)
+fn combine<T: TileElem + Divide>(op: Binary, out: &mut [T], x: &Values<T>, y: &Values<T>)
     requires first { Fills x.now (length out.old) }
     requires second { Fills y.now (length out.old) }
     ensures { map T.number out.new
@@ -75,8 +77,8 @@ fn combine<T: TileElem>(op: Binary, out: &mut [T], x: &Values<T>, y: &Values<T>)
         Binary::Add => combine_by::<T, Add>(out, x, y),
         Binary::Sub => combine_by::<T, Sub>(out, x, y),
         Binary::Mul => combine_by::<T, Mul>(out, x, y),
-        Binary::FloorDiv => combine_by::<T, FloorDiv>(out, x, y),
-        Binary::Rem => combine_by::<T, Rem>(out, x, y),
+        Binary::FloorDiv => divide(out, x, y),
+        Binary::Rem => leave(out, x, y),
         Binary::Pow => combine_by::<T, Pow>(out, x, y),
         Binary::BitAnd => combine_by::<T, BitAnd>(out, x, y),
         Binary::BitOr => combine_by::<T, BitOr>(out, x, y),
@@ -85,6 +87,36 @@ fn combine<T: TileElem>(op: Binary, out: &mut [T], x: &Values<T>, y: &Values<T>)
         Binary::Shr => combine_by::<T, Shr>(out, x, y),
         Binary::Min => combine_by::<T, Min>(out, x, y),
         Binary::Max => combine_by::<T, Max>(out, x, y),
+    }
+}
+
+// The quotients. Those by a number go by its reciprocal.
+fn divide<T: TileElem + Divide>(out: &mut [T], x: &Values<T>, y: &Values<T>)
+    requires first { Fills x.now (length out.old) }
+    requires second { Fills y.now (length out.old) }
+    ensures { map T.number out.new
+        ≡ listed (λ place. value_of kinds.FloorDiv T.DTYPE
+        (wrap T.DTYPE (number_in T.number x.now place))
+        (wrap T.DTYPE (number_in T.number y.now place))) (length out.old) }
+{
+    match (x, y) {
+        (Values::Items(x), Values::Constant(y)) => divided(out, x.items(), *y),
+        _ => combine_by::<T, FloorDiv>(out, x, y),
+    }
+}
+
+// What the quotients leave, in the same way.
+fn leave<T: TileElem + Divide>(out: &mut [T], x: &Values<T>, y: &Values<T>)
+    requires first { Fills x.now (length out.old) }
+    requires second { Fills y.now (length out.old) }
+    ensures { map T.number out.new
+        ≡ listed (λ place. value_of kinds.Rem T.DTYPE
+        (wrap T.DTYPE (number_in T.number x.now place))
+        (wrap T.DTYPE (number_in T.number y.now place))) (length out.old) }
+{
+    match (x, y) {
+        (Values::Items(x), Values::Constant(y)) => remainders(out, x.items(), *y),
+        _ => combine_by::<T, Rem>(out, x, y),
     }
 }
 

@@ -3,12 +3,14 @@
 ghost use Rattle.std.specs.Prelude.{◌≡◌, ℕ, ◌<◌, length, map, slice_index_or, if◌then◌else◌, pos, ◌+ℤ◌};
 ghost use Rattle.std.specs.Int.{from_bool};
 ghost use Rattle.std.specs.List.{list_any};
+ghost use Rattle.lg_elem.specs.declared.kinds.Binary.TheVariants as kinds;
 ghost use Rattle.lg_elem.specs.Operations.{unary_of, value_of, compare_of, is_zero, is_negative};
 ghost use Rattle.lg_elem.specs.Types.{wrap};
-ghost use Rattle.lg_map.specs.Columns.{listed};
+ghost use Rattle.lg_map.specs.Columns.{item_at, listed};
 ghost use Rattle.lg_map.specs.Mapping.{IsConstant};
 
 use crate::columns::Column;
+use lg_divide::{Divide, divide_all, remainder_all};
 use lg_elem::Elem;
 use lg_elem::kernels::{CompareKernel, Kernel, UnaryKernel};
 
@@ -39,6 +41,30 @@ pub fn both<T: Elem, K: Kernel, X: Column<T>, Y: Column<T>>(out: &mut [T], x: X,
     for i in 0..out.len() {
         out[i] = K::apply(x.at(i), y.at(i));
     }
+}
+
+/// Puts the quotient of an element by the same one in each place.
+pub fn divided<T: Divide>(out: &mut [T], x: &[T], y: T)
+    requires { length x.now ≡ length out.old }
+    ensures { map T.number out.new
+        ≡ listed (λ place. value_of kinds.FloorDiv T.DTYPE
+        (wrap T.DTYPE (item_at T.number x.now place)) (wrap T.DTYPE (T.number y)))
+        (length out.old) }
+{
+    let _number = y.value();
+    divide_all(out, x, y);
+}
+
+/// Puts in each place what that quotient leaves.
+pub fn remainders<T: Divide>(out: &mut [T], x: &[T], y: T)
+    requires { length x.now ≡ length out.old }
+    ensures { map T.number out.new
+        ≡ listed (λ place. value_of kinds.Rem T.DTYPE
+        (wrap T.DTYPE (item_at T.number x.now place)) (wrap T.DTYPE (T.number y)))
+        (length out.old) }
+{
+    let _number = y.value();
+    remainder_all(out, x, y);
 }
 
 /// Puts in each place whether two elements compare so.

@@ -179,6 +179,36 @@ fn parts_of_tiles(rt: HostRuntime) -> Result<(), Fail> {
     )
 }
 
+// Quotients and remainders by a number, above and below 0.
+#[test]
+fn division_by_numbers(rt: HostRuntime) -> Result<(), Fail> {
+    let alloc = rt.alloc();
+    let (x, seven, minus) = (
+        Operand::Input(0),
+        Operand::Constant(7),
+        Operand::Constant(-3),
+    );
+    let (bytes, other) = ([0_i8, -128, 127, 0], [1_i8, 1, 1, 1]);
+    for (op, expected) in [
+        (MapOp::Binary(Binary::FloorDiv, x, seven), [-19, 18]),
+        (MapOp::Binary(Binary::Rem, x, seven), [5, 1]),
+        (MapOp::Binary(Binary::FloorDiv, x, minus), [42, -43]),
+        (MapOp::Binary(Binary::Rem, x, minus), [-2, -2]),
+    ] {
+        over_rows(
+            &rt,
+            alloc,
+            &op,
+            &bytes,
+            &other,
+            DType::Int8,
+            &expected,
+            Flag::Clear,
+        )?;
+    }
+    Ok(())
+}
+
 #[test]
 fn tiles_of_two_types(rt: HostRuntime) -> Result<(), Fail> {
     let alloc = rt.alloc();

@@ -1,0 +1,5 @@
+pub mod Products
+pub mod Forms
+pub mod Machine
+pub mod Steps
+pub mod Remainders
