@@ -5,7 +5,7 @@ use Rattle.std.proofs.Math.Seq.{split_at}
 use Rattle.std.specs.Io.KnownBytes.{Appends}
 use Rattle.std.proofs.KnownBytes.{Appends-nil, Appends-trans}
 use Rattle.lg_outside.specs.Outside.{AppendsPart}
-use Rattle.lg_grammar.specs.Tree.{LineTree}
+use Rattle.lg_tree.specs.Tree.{LineTree}
 use Rattle.lg_meaning.specs.Memory.{State}
 use Rattle.lg_meaning.specs.declared.fault.FaultKind.{FaultKind}
 use Rattle.lg_meaning.specs.Step.{step}
@@ -13,7 +13,7 @@ use Rattle.lg_meaning.specs.Run.{done, fault_at, run, run_from, run_after, start
 use Rattle.legate.specs.Running.{Ends, PrintsFirst, IsStopped, stop_of, Writes, WritesPart, StopsWriting}
 use Rattle.legate.specs.declared.running.RunStop.{RunStop}
 use Rattle.legate.specs.declared.running.RunStop.TheVariants.{Fault, WriteFault, NoMemory}
-use Rattle.lg_session.specs.Standing.{Stands}
+use Rattle.lg_session.specs.Standing.{StandsFor}
 use Rattle.lg_session.specs.Session.{FaultsAt, StopsAt}
 use Rattle.lg_session.specs.declared.session.Session.{Session}
 use Rattle.lg_session.specs.declared.session.StopEnd.{StopEnd}
@@ -55,9 +55,9 @@ pub record Reached (session : Session) (lines : List LineTree) (old new : Option
   pub text : List ℕ
   pub reaches : Reaches start lines text state
   pub appended : Appends old new text
-  pub stands : Stands session state
+  pub stands : StandsFor session state
 
-pub reached_none : (session : Session) (a : Option (List ℕ)) → Stands session start → Reached session [] a a
+pub reached_none : (session : Session) (a : Option (List ℕ)) → StandsFor session start → Reached session [] a a
 reached_none session a stands = record { state = start; text = []; reaches = here; appended = Appends-nil a; stands = stands }
 
 -- what a whole script without a fault prints
@@ -116,7 +116,7 @@ module _ (session : Session) (lines behind : List LineTree) (line : LineTree) (a
 module _ {X : Type 0} (f : X → LineTree) (xs : List X) (i : ℕ) (x : X) (is : x ≡ get_or xs i x) (session : Session) (a b c : Option (List ℕ))
     (r : Reached session (take i (map f xs)) a b) (within : i < length xs) where
   -- one more line was run
-  pub reached_next : (after : Session) → ((s : State) → Stands session s → Writes (f x) s b c after)
+  pub reached_next : (after : Session) → ((s : State) → StandsFor session s → Writes (f x) s b c after)
       → Reached after (take (i + 1) (map f xs)) a c
   reached_next after performs =
       let same : take (i + 1) (map f xs) ≡ take i (map f xs) ++ f x ∷ [] =
@@ -149,7 +149,7 @@ module _ {X : Type 0} (f : X → LineTree) (xs : List X) (i : ℕ) (x : X) (is :
       let P : Option (List ℕ) → Type 0 = λ o. PrintsFirst (map f xs) a o in
       subst P (sym h) (record { count = i; printed = (ends_reached session (take i (map f xs)) a b r).printed })
 
-  pub reached_stop : (stop : RunStop) → ((s : State) → Stands session s → StopsWriting stop (f x) s b c) → IsStopped stop (map f xs) a c
+  pub reached_stop : (stop : RunStop) → ((s : State) → StandsFor session s → StopsWriting stop (f x) s b c) → IsStopped stop (map f xs) a c
   reached_stop stop h = stopped_at stop (h r.state r.stands)
 
 -- all lines were run

@@ -1,6 +1,6 @@
 -- What follows for the statuses where the bytes spell no script.
 use Rattle.std.proofs.Common.{◌≡◌, ◌≢◌, ◌≤◌, ◌↔◌, ℕ, List, Option, None, Some, IfSome, length, refl, arith}
-use Rattle.lg_grammar.specs.Tree.{LineTree}
+use Rattle.lg_tree.specs.Tree.{LineTree}
 use Rattle.lg_grammar.specs.Script.{Spells, IsFirstBad}
 use Rattle.lg_meaning.specs.Run.{run}
 use Rattle.legate.specs.declared.exit.Exit.{Exit}

@@ -2,11 +2,11 @@
 use Rattle.std.specs.Prelude.{◌≡◌, ℕ, List, take, Option, None}
 use Rattle.std.specs.Io.KnownBytes.{Appends}
 use Rattle.lg_outside.specs.Outside.{AppendsPart}
-use Rattle.lg_grammar.specs.Tree.{LineTree}
+use Rattle.lg_tree.specs.Tree.{LineTree}
 use Rattle.lg_meaning.specs.Memory.{State}
 use Rattle.lg_meaning.specs.Step.{step}
 use Rattle.lg_meaning.specs.Run.{End, fault_at, run}
-use Rattle.lg_session.specs.Standing.{Stands}
+use Rattle.lg_session.specs.Standing.{StandsFor}
 use Rattle.lg_session.specs.Session.{FaultsAt}
 use Rattle.lg_session.specs.declared.session.Session.{Session}
 use Rattle.lg_session.specs.declared.session.StopEnd.{StopEnd}
@@ -35,7 +35,7 @@ pub record Writes (line : LineTree) (state : State) (old new : Option (List ℕ)
     (session : Session) : Type 0 where
   pub sound : (step line.statement state).fault ≡ None
   pub printed : Appends old new (step line.statement state).text
-  pub stands : Stands session (step line.statement state).state
+  pub stands : StandsFor session (step line.statement state).state
 
 -- the statement has no fault, and of its text only a part was appended
 pub record WritesPart (line : LineTree) (state : State) (old new : Option (List ℕ)) : Type 0 where

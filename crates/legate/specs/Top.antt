@@ -1,7 +1,7 @@
 -- What a whole call does: from words and bytes to printed text and a status. This project's own.
 use Rattle.std.specs.Prelude.{◌≡◌, ℕ, List, [], ◌∷◌, map, Option, Some, String, string_bytes, codes}
 use Rattle.lg_outside.specs.Outside.{AppendsPart}
-use Rattle.lg_grammar.specs.Tree.{LineTree}
+use Rattle.lg_tree.specs.Tree.{LineTree}
 use Rattle.lg_grammar.specs.Script.{Spells}
 use Rattle.lg_meaning.specs.declared.fault.FaultKind.{FaultKind}
 use Rattle.lg_meaning.specs.Run.{End, done, fault_at, run}

@@ -1,12 +1,13 @@
 ghost use Rattle.std.specs.Prelude.{◌≡◌, ◌≤◌, ◌<◌, ◌↔◌, ℕ, List, [], Some, IfOk, IfSome, IsErrOf};
 ghost use Rattle.lg_outside.specs.Outside.{Rose, taken_count};
-ghost use Rattle.lg_grammar.specs.Tree.{LineTree};
+ghost use Rattle.lg_tree.specs.Tree.{LineTree};
 ghost use Rattle.lg_grammar.specs.Script.{Spells, IsFirstBad};
-ghost use Rattle.lg_grammar.specs.View.{script_of};
+ghost use Rattle.lg_tree.specs.View.{script_of};
 ghost use Rattle.legate.specs.Top.{SpellsNone};
 
-use lg_grammar::{Script, ScriptEnd, read_script};
+use lg_grammar::{ScriptEnd, read_script};
 use lg_outside::{ReadEnd, Source, read_all};
+use lg_tree::Script;
 use std::alloc::Global;
 
 /// The most bytes that a script may have.

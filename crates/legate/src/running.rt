@@ -1,19 +1,21 @@
-ghost use Rattle.std.specs.Prelude.{◌≡◌, ◌≤◌, OnOk, IfErr, IsErrOf};
+ghost use Rattle.std.specs.Prelude.{◌≡◌, ◌≤◌, false, OnOk, IfErr, IsErrOf};
 ghost use Rattle.lg_outside.specs.Outside.{Rose};
-ghost use Rattle.lg_grammar.specs.View.{script_of, line_of};
+ghost use Rattle.lg_tree.specs.View.{script_of, line_of};
 ghost use Rattle.lg_meaning.specs.Memory.{State};
 ghost use Rattle.lg_meaning.specs.Run.{done};
-ghost use Rattle.lg_session.specs.Standing.{Stands};
+ghost use Rattle.lg_session.specs.Session.{is_spent};
+ghost use Rattle.lg_session.specs.Standing.{StandsFor};
 ghost use Rattle.legate.specs.Running.{Ends, IsStopped, stop_of, Writes, StopsWriting};
 
-use lg_grammar::{Line, Script};
 use lg_meaning::FaultKind;
 use lg_outside::{Sink, write_all};
 use lg_session::{Session, StopEnd};
+use lg_tree::{Line, Script};
 use std::alloc::Global;
 
-/// Into how many tiles an operation is cut at most. It never changes what a script prints.
-const PIECES: u32 = 4;
+/// Into how many tiles an operation is cut at most. It never changes what a script prints; on one
+/// thread one tile takes the least time, since nothing has to be joined.
+const PIECES: u32 = 1;
 
 /// Why a run stopped before its end.
 #[derive(Clone, Copy, Debug)]
@@ -70,9 +72,11 @@ fn run_line<K: Sink>(
     session: &mut Session,
     out: &mut K,
 ) -> Result<(), RunStop>
-    ensures done { OnOk result ((state : State) → Stands session.old state →
+    requires { is_spent session.old ≡ false }
+    ensures unspent { OnOk result (is_spent session.new ≡ false) }
+    ensures done { OnOk result ((state : State) → StandsFor session.old state →
         Writes (line_of line.now) state (K.written out.old) (K.written out.new) session.new) }
-    ensures stopped { IfErr result (λ stop. (state : State) → Stands session.old state →
+    ensures stopped { IfErr result (λ stop. (state : State) → StandsFor session.old state →
         StopsWriting stop (line_of line.now) state (K.written out.old) (K.written out.new)) }
     ensures fault { IsErrOf result RunStop.WriteFault → Rose (K.faults out.old) (K.faults out.new) }
     ensures later { K.faults out.old ≤ K.faults out.new }

@@ -1,10 +1,15 @@
 //! Whole calls over streams in memory, with what each must answer, print and log.
+mod scripts;
+mod statements;
+mod trees;
+
 use crate::messages::told;
 use crate::{Exit, legate};
 use lg_meaning::FaultKind;
 use lg_outside::{MemorySink, MemorySource};
 use std::alloc::{AllocError, Global};
 use std::process::Abort;
+use std::str;
 use std::test::Fail;
 
 // What a call is given and must answer. The status numbers are written out. The source gives at
@@ -12,7 +17,7 @@ use std::test::Fail;
 #[derive(Clone, Copy)]
 struct Row {
     words: &'static [&'static str],
-    script: &'static [u8],
+    script: &'static str,
     piece: usize,
     reads: &'static [u64],
     room: usize,
@@ -20,18 +25,12 @@ struct Row {
     status: u8,
     line: u64,
     kind: Option<FaultKind>,
-    out: &'static [u8],
-    log: &'static [u8],
+    out: &'static str,
+    log: &'static str,
 }
 
 // A row of `run` with streams that don't fail.
-fn plain(
-    script: &'static [u8],
-    status: u8,
-    line: u64,
-    out: &'static [u8],
-    log: &'static [u8],
-) -> Row {
+fn plain(script: &'static str, status: u8, line: u64, out: &'static str, log: &'static str) -> Row {
     Row {
         words: &["run"],
         script,
@@ -49,11 +48,11 @@ fn plain(
 
 // A row of `run` that ends with a fault.
 fn faulty(
-    script: &'static [u8],
+    script: &'static str,
     line: u64,
     kind: FaultKind,
-    out: &'static [u8],
-    log: &'static [u8],
+    out: &'static str,
+    log: &'static str,
 ) -> Row {
     Row {
         kind: Some(kind),
@@ -67,50 +66,65 @@ fn try_row(rt: &impl Abort, alloc: Global, row: &Row) -> Result<(), Fail> {
         words.push(String::from_str(alloc, word)?)?;
     }
     assert!(rt; row.piece > 0);
-    let script = row.script.to_vec(alloc)?;
-    let mut source = MemorySource::new(script, row.piece, row.reads.to_vec(alloc)?);
+    let script = row.script;
+    let bytes = script.as_bytes().to_vec(alloc)?;
+    let mut source = MemorySource::new(bytes, row.piece, row.reads.to_vec(alloc)?);
     let mut out = MemorySink::new(alloc, row.room, row.writes.to_vec(alloc)?)?;
     let mut log = MemorySink::new(alloc, 4096, Vec::new(alloc))?;
     let exit = legate(alloc, &words, &mut source, &mut out, &mut log);
-    assert_eq!(rt; exit.status, row.status);
-    assert_eq!(rt; exit.line, row.line);
-    assert_eq!(rt; exit.kind, row.kind);
-    assert_eq!(rt; out.bytes(), row.out);
-    assert_eq!(rt; log.bytes(), row.log);
+    assert_eq!(rt; exit.status, row.status, "{script}");
+    assert_eq!(rt; exit.line, row.line, "{script}");
+    assert_eq!(rt; exit.kind, row.kind, "{script}");
+    assert_eq!(rt; str::from_utf8(out.bytes()), Ok(row.out), "{script}");
+    assert_eq!(rt; str::from_utf8(log.bytes()), Ok(row.log), "{script}");
+    Ok(())
+}
+
+// Runs a script with streams that don't fail, and compares status, prints and log.
+fn ends_with(
+    rt: &impl Abort,
+    alloc: Global,
+    script: &str,
+    status: u8,
+    printed: &str,
+    logged: &str,
+) -> Result<(), Fail> {
+    let words = vec![in alloc; String::from_str(alloc, "run")?]?;
+    let mut source = MemorySource::new(script.as_bytes().to_vec(alloc)?, 4096, Vec::new(alloc));
+    let mut out = MemorySink::new(alloc, 4096, Vec::new(alloc))?;
+    let mut log = MemorySink::new(alloc, 64, Vec::new(alloc))?;
+    let exit = legate(alloc, &words, &mut source, &mut out, &mut log);
+    assert_eq!(rt; exit.status, status, "{script}");
+    assert_eq!(rt; str::from_utf8(out.bytes()), Ok(printed), "{script}");
+    assert_eq!(rt; str::from_utf8(log.bytes()), Ok(logged), "{script}");
     Ok(())
 }
 
 #[test]
 fn scripts_print(rt: HostRuntime) -> Result<(), Fail> {
     let rows = [
-        plain(b"", 0, 0, b"", b""),
+        plain("", 0, 0, "", ""),
+        plain("a = full(3, 7)\nprint(a + a)", 0, 0, "[14, 14, 14]\n", ""),
         plain(
-            b"a = full(3, 7)\nprint(a + a)",
+            "print(full(0, 7))\n\n \t\nprint( full(1 ,\t0) )\n",
             0,
             0,
-            b"[14, 14, 14]\n",
-            b"",
+            "[]\n[0]\n",
+            "",
         ),
         plain(
-            b"print(full(0, 7))\n\n \t\nprint( full(1 ,\t0) )\n",
+            "print(full(1, 5) + full(3, 1))\nprint(full(2, 1) + full(1, 4) + full(2, 2))\nprint(full(0, 1) + full(1, 1))",
             0,
             0,
-            b"[]\n[0]\n",
-            b"",
+            "[6, 6, 6]\n[7, 7]\n[]\n",
+            "",
         ),
         plain(
-            b"print(full(1, 5) + full(3, 1))\nprint(full(2, 1) + full(1, 4) + full(2, 2))\nprint(full(0, 1) + full(1, 1))",
+            "a = full(2, 1)\nb = a\na = full(1, 9)\nprint(b)\nprint(a + b)\nb = b + b\nprint(b)",
             0,
             0,
-            b"[6, 6, 6]\n[7, 7]\n[]\n",
-            b"",
-        ),
-        plain(
-            b"a = full(2, 1)\nb = a\na = full(1, 9)\nprint(b)\nprint(a + b)\nb = b + b\nprint(b)",
-            0,
-            0,
-            b"[1, 1]\n[10, 10]\n[2, 2]\n",
-            b"",
+            "[1, 1]\n[10, 10]\n[2, 2]\n",
+            "",
         ),
     ];
     for row in &rows {
@@ -122,35 +136,36 @@ fn scripts_print(rt: HostRuntime) -> Result<(), Fail> {
 #[test]
 fn scripts_have_faults(rt: HostRuntime) -> Result<(), Fail> {
     let rows = [
-        plain(b"print(a + 1)", 3, 1, b"", b"line 1: syntax\n"),
+        plain("print(a[1])", 3, 1, "", "line 1: syntax\n"),
+        faulty("print(a + 1)", 1, FaultKind::Name, "", "line 1: name\n"),
         plain(
-            b"print(full(1, 1))\nprint(full(1, 01))\n",
+            "print(full(1, 1))\nprint(full(1, 01))\n",
             3,
             2,
-            b"",
-            b"line 2: syntax\n",
+            "",
+            "line 2: syntax\n",
         ),
-        faulty(b"print(b)", 1, FaultKind::Name, b"", b"line 1: name\n"),
+        faulty("print(b)", 1, FaultKind::Name, "", "line 1: name\n"),
         faulty(
-            b"a = full(2, 1) + full(3, 1)",
+            "a = full(2, 1) + full(3, 1)",
             1,
             FaultKind::Shape,
-            b"",
-            b"line 1: shape\n",
+            "",
+            "line 1: shape\n",
         ),
         faulty(
-            b"print(full(1, 1))\n\nprint(full(2, 1) + full(3, 1) + c)\nprint(full(1, 2))",
+            "print(full(1, 1))\n\nprint(full(2, 1) + full(3, 1) + c)\nprint(full(1, 2))",
             3,
             FaultKind::Shape,
-            b"[1]\n",
-            b"line 3: shape\n",
+            "[1]\n",
+            "line 3: shape\n",
         ),
         faulty(
-            b"a = a\nprint(full(1, 2))",
+            "a = a\nprint(full(1, 2))",
             1,
             FaultKind::Name,
-            b"",
-            b"line 1: name\n",
+            "",
+            "line 1: name\n",
         ),
     ];
     for row in &rows {
@@ -190,43 +205,51 @@ fn sums_wrap_at_64_bits(rt: HostRuntime) -> Result<(), Fail> {
 
 #[test]
 fn streams_and_words_fail(rt: HostRuntime) -> Result<(), Fail> {
-    let script = b"a = full(3, 7)\nprint(a + a)\nprint(full(1, 5))";
-    let base = plain(script, 0, 0, b"[14, 14, 14]\n[5]\n", b"");
+    let script = "a = full(3, 7)\nprint(a + a)\nprint(full(1, 5))";
+    let base = plain(script, 0, 0, "[14, 14, 14]\n[5]\n", "");
     let rows = [
         Row {
             piece: 4,
             reads: &[2],
             status: 6,
-            out: b"",
-            log: b"read fault\n",
+            out: "",
+            log: "read fault\n",
             ..base
         },
         Row {
             room: 3,
             status: 7,
-            out: b"[14",
-            log: b"write fault\n",
+            out: "[14",
+            log: "write fault\n",
             ..base
         },
         Row {
             writes: &[2],
             status: 7,
-            out: b"[14, 14, 14]\n",
-            log: b"write fault\n",
+            out: "[14, 14, 14]\n",
+            log: "write fault\n",
+            ..base
+        },
+        Row {
+            script: "print(1)\nprint(2)",
+            writes: &[2],
+            status: 7,
+            out: "1\n",
+            log: "write fault\n",
             ..base
         },
         Row {
             words: &[],
             status: 2,
-            out: b"",
-            log: b"usage: legate run, check or demo\n",
+            out: "",
+            log: "usage: legate run, check or demo\n",
             ..base
         },
         Row {
             words: &["run", "run"],
             status: 2,
-            out: b"",
-            log: b"usage: legate run, check or demo\n",
+            out: "",
+            log: "usage: legate run, check or demo\n",
             ..base
         },
     ];

@@ -1,6 +1,6 @@
 ghost use Rattle.std.specs.Prelude.{◌≡◌, ◌≢◌, ◌≤◌, ◌<◌, ◌↔◌, ◌⊎◌, List, [], ◌∷◌, length, Some, None, IfSome, IsSome, IsTrue, Contains};
 ghost use Rattle.lg_outside.specs.Outside.{Rose, taken_count};
-ghost use Rattle.lg_grammar.specs.Tree.{LineTree};
+ghost use Rattle.lg_tree.specs.Tree.{LineTree};
 ghost use Rattle.lg_grammar.specs.Script.{Spells, IsFirstBad};
 ghost use Rattle.lg_meaning.specs.Run.{done, fault_at, run};
 ghost use Rattle.lg_meaning.specs.declared.fault.FaultKind.{FaultKind};

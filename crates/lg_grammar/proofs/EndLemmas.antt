@@ -1,13 +1,13 @@
 -- What reading one line gives for the script, by how it ended.
 use Rattle.std.proofs.Common.{◌≡◌, ℕ, ◌+◌, ◌<◌, ◌≤◌, inl, inr, Option, Some, List, [], ◌∷◌, length, sym, subst, arith, length-append}
 use Rattle.std.proofs.lemmas.List.{length-map}
-use Rattle.lg_grammar.specs.Tree.{LineTree}
+use Rattle.lg_tree.specs.Tree.{LineTree}
 use Rattle.lg_grammar.specs.Script.{lines_of, Spells, IsFirstBad, SpellsLine, IsBad}
-use Rattle.lg_grammar.specs.View.{statement_of, line_of}
+use Rattle.lg_tree.specs.View.{statement_of, line_of}
 use Rattle.lg_grammar.specs.Lines.{lines_view, HoldsLine, EndsLine, AddsLine, EndsAdding}
 use Rattle.lg_grammar.specs.Ends.{SpellsNone, NamesFirstBad}
-use Rattle.lg_grammar.specs.declared.trees.Statement.{Statement}
-use Rattle.lg_grammar.specs.declared.trees.Line.{Line}
+use Rattle.lg_tree.specs.declared.trees.Statement.{Statement}
+use Rattle.lg_tree.specs.declared.trees.Line.{Line}
 use Rattle.lg_grammar.specs.declared.scripts.ScriptEnd.{ScriptEnd}
 use Rattle.lg_grammar.specs.declared.scripts.ScriptEnd.TheVariants.{Syntax, NoMemory}
 use Rattle.lg_grammar.proofs.LineLemmas.{ReadSoFar, read_skipped, read_spelled, read_end, bad_none, bad_first, nothing_bad, full_bad}

@@ -2,14 +2,15 @@
 use Rattle.std.proofs.Common.{◌≡◌, ℕ, ◌+◌, ◌≤◌, ◌⊎◌, inl, inr, List, [], ◌∷◌, ◌++◌, length, refl, sym, ap, ◌∙◌, subst, arith, length-append, append_assoc, append-nil}
 use Rattle.lg_lex.specs.Line.{Reads, ReadsNone}
 use Rattle.lg_lex.proofs.LineLemmas.{reads_once}
-use Rattle.lg_grammar.specs.Token.{tokens_of}
-use Rattle.lg_grammar.specs.Tree.{StatementTree, LineTree}
-use Rattle.lg_grammar.specs.Grammar.{SpellsStatement}
+use Rattle.lg_grammar.specs.Lexed.{terminals_of}
+use Rattle.lg_tree.specs.Tree.{StatementTree, LineTree}
+use Rattle.lg_grammar.specs.Statements.{HoldsStatement}
 use Rattle.lg_grammar.specs.Script.{lines_of, IsIndented, SpellsLine, IsSkipped, SpellsLines, Spells, IsBad, IsFirstBad}
-use Rattle.lg_grammar.specs.Parsing.{SpellsNothing}
+use Rattle.lg_grammar.specs.ParsingStatements.{EndsStatement}
+use Rattle.lg_grammar.specs.declared.ends.ParseEnd.TheVariants.{Syntax}
 use Rattle.lg_lex.specs.declared.tokens.Token.{Token as Span}
 use Rattle.lg_grammar.specs.Lines.{HoldsNothing}
-use Rattle.lg_grammar.proofs.GrammarLemmas.{statement_once, no_statement}
+use Rattle.lg_grammar.proofs.StatementLemmas.{statement_once, no_statement}
 
 abbrev numbered : ℕ → StatementTree → LineTree
 numbered k s = record { number = k; statement = s }
@@ -17,10 +18,10 @@ numbered k s = record { number = k; statement = s }
 -- a line holds one statement at most, and none where it is skipped
 pub line_once : (line : List ℕ) (s t : StatementTree) → SpellsLine line s → SpellsLine line t → s ≡ t
 line_once line s t h k =
-    statement_once (tokens_of line h.tokens) s t h.spelled (subst (λ (z : List Span). SpellsStatement (tokens_of line z) t) (reads_once line k.tokens h.tokens k.lexed h.lexed) k.spelled)
+    statement_once (terminals_of line h.tokens) s t h.held (subst (λ (z : List Span). HoldsStatement (terminals_of line z) t) (reads_once line k.tokens h.tokens k.lexed h.lexed) k.held)
 
 pub skipped_none : (line : List ℕ) (s : StatementTree) → IsSkipped line → SpellsLine line s → ⊥
-skipped_none line s h k = no_statement s (subst (λ (z : List Span). SpellsStatement (tokens_of line z) s) (reads_once line k.tokens [] k.lexed h) k.spelled)
+skipped_none line s h k = no_statement s (subst (λ (z : List Span). HoldsStatement (terminals_of line z) s) (reads_once line k.tokens [] k.lexed h) k.held)
 
 -- the first line is skipped, or it holds the first statement
 pub record Begins (k : ℕ) (line : List ℕ) (lines : List (List ℕ)) (script : List LineTree) : Type 0 where
@@ -144,10 +145,10 @@ not_blank line ts h some skipped = some (reads_once line ts [] h skipped)
 pub indented_nothing : (line : List ℕ) (ts : List Span) → Reads line ts → (ts ≡ [] → ⊥) → (IsIndented 0 line → ⊥) → HoldsNothing line
 indented_nothing line ts h some blank = record { not_skipped = not_blank line ts h some; no_statement = λ s k. blank k.indented }
 
-pub unspelled_nothing : (line : List ℕ) (ts : List Span) → Reads line ts → (ts ≡ [] → ⊥) → SpellsNothing (tokens_of line ts) → HoldsNothing line
+pub unspelled_nothing : (line : List ℕ) (ts : List Span) → Reads line ts → (ts ≡ [] → ⊥) → EndsStatement (terminals_of line ts) Syntax → HoldsNothing line
 unspelled_nothing line ts h some none = record {
   not_skipped = not_blank line ts h some;
-  no_statement = λ s k. none s (subst (λ (z : List Span). SpellsStatement (tokens_of line z) s) (reads_once line k.tokens ts k.lexed h) k.spelled);
+  no_statement = λ s k. none s (subst (λ (z : List Span). HoldsStatement (terminals_of line z) s) (reads_once line k.tokens ts k.lexed h) k.held);
 }
 
 pub nothing_bad : (line : List ℕ) (before : List LineTree) → HoldsNothing line → IsBad line before

@@ -1,42 +1,23 @@
 -- A script has no more nodes than bytes.
-use Rattle.std.proofs.Common.{◌≡◌, ℕ, suc, ◌+◌, ◌≤◌, Bool, true, false, cond, inl, inr, List, [], ◌∷◌, length, sum_by, sym, ap, ◌∙◌, subst, arith, eqb, le_trans, le_refl, zero-le, length-append}
+use Rattle.std.proofs.Common.{◌≡◌, ℕ, suc, ◌+◌, ◌≤◌, Bool, true, false, cond, inl, inr, List, [], ◌∷◌, length, sum_by, sym, ap, ◌∙◌, subst, arith, eqb, le_trans, le_refl, zero-le}
 use Rattle.std.specs.List.{slice_split, onto_first}
 use Rattle.std.proofs.lemmas.List.Sums.{sum_by-cons}
-use Rattle.lg_grammar.specs.Token.{Token, token_of, tokens_of, sign}
+use Rattle.lg_grammar.specs.Lexed.{terminal_at, terminals_of}
 use Rattle.lg_lex.specs.Line.{Reads}
 use Rattle.lg_lex.specs.declared.tokens.Token.{Token as Span}
-use Rattle.lg_lex.specs.declared.tokens.TokenKind.TheVariants.{Plus, RightParenthesis}
-use Rattle.lg_grammar.specs.Tree.{Tree, StatementTree, LineTree, nodes, statement_nodes, line_nodes}
-use Rattle.lg_grammar.specs.Grammar.{Form, SpellsTree, a_name, a_full, one_term, added, SpellsStatement, a_bind, a_print}
+use Rattle.lg_tree.specs.Tree.{StatementTree, LineTree, statement_nodes, line_nodes}
 use Rattle.lg_grammar.specs.Script.{lines_of, SpellsLine, SpellsLines, Spells}
 use Rattle.std.proofs.lemmas.List.{length-map}
 use Rattle.lg_lex.proofs.LineLemmas.{holds_few}
 use Rattle.lg_grammar.proofs.LineLemmas.{begins}
-
--- no more nodes than tokens
-tree_small : {f : Form} {ts : List Token} {e : Tree} → SpellsTree f ts e → nodes e ≤ length ts
-tree_small (a_name w h) = le_refl 1
-tree_small (a_full n x low small) = omega arith
-tree_small (one_term h) = tree_small h
-tree_small (added {ts = ts} {us = us} {a = a} {b = b} h k) =
-    let p : nodes a ≤ length ts = tree_small h in
-    let q : nodes b ≤ length us = tree_small k in
-    omega (arith, length-append ts (sign Plus ∷ us))
-
-statement_small : {ts : List Token} {s : StatementTree} → SpellsStatement ts s → statement_nodes s ≤ length ts
-statement_small (a_bind {ts = ts} {e = e} h k low) =
-    let p : nodes e ≤ length ts = tree_small k in
-    omega arith
-statement_small (a_print {ts = ts} {e = e} k low) =
-    let p : nodes e ≤ length ts = tree_small k in
-    omega (arith, length-append ts (sign RightParenthesis ∷ []))
+use Rattle.lg_grammar.proofs.StatementLemmas.{statement_small}
 
 -- no more tokens than bytes
-tokens_small : (line : List ℕ) (ts : List Span) → Reads line ts → length (tokens_of line ts) ≤ length line
-tokens_small line ts h = omega (arith, length-map ts (token_of line), holds_few line 0 ts (length line) h)
+tokens_small : (line : List ℕ) (ts : List Span) → Reads line ts → length (terminals_of line ts) ≤ length line
+tokens_small line ts h = omega (arith, length-map ts (terminal_at line), holds_few line 0 ts (length line) h)
 
 line_small : (line : List ℕ) (s : StatementTree) → SpellsLine line s → statement_nodes s ≤ length line
-line_small line s h = le_trans (statement_small h.spelled) (tokens_small line h.tokens h.lexed)
+line_small line s h = le_trans (statement_small h.held.spelled) (tokens_small line h.tokens h.lexed)
 
 lines_small : (k : ℕ) (lines : List (List ℕ)) (script : List LineTree) → SpellsLines k lines script → sum_by line_nodes script ≤ sum_by length lines
 lines_small k [] script h = let none : script ≡ [] = h in subst (λ (z : List LineTree). sum_by line_nodes z ≤ 0) (sym none) zero-le

@@ -1,6 +1,6 @@
 -- What it says of the bytes of a script that reading them ended so.
 use Rattle.std.specs.Prelude.{ℕ, List, ⊤}
-use Rattle.lg_grammar.specs.Tree.{LineTree}
+use Rattle.lg_tree.specs.Tree.{LineTree}
 use Rattle.lg_grammar.specs.Script.{Spells, IsFirstBad}
 use Rattle.lg_grammar.specs.declared.scripts.ScriptEnd.{ScriptEnd}
 use Rattle.lg_grammar.specs.declared.scripts.ScriptEnd.TheVariants.{Syntax, NoMemory}

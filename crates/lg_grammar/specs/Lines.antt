@@ -1,10 +1,10 @@
 -- What reading one line gives, and where the lines stand in the bytes.
 use Rattle.std.specs.Prelude.{◌≡◌, ℕ, ◌<◌, ◌⊎◌, nat_le, cond, Option, None, Some, List, [], ◌∷◌, ◌++◌, map, length, drop, ⊤}
-use Rattle.lg_grammar.specs.Tree.{StatementTree, LineTree}
+use Rattle.lg_tree.specs.Tree.{StatementTree, LineTree}
 use Rattle.lg_grammar.specs.Script.{lines_of, SpellsLine, IsSkipped, IsBad}
-use Rattle.lg_grammar.specs.View.{statement_of, line_of}
-use Rattle.lg_grammar.specs.declared.trees.Statement.{Statement}
-use Rattle.lg_grammar.specs.declared.trees.Line.{Line}
+use Rattle.lg_tree.specs.View.{statement_of, line_of}
+use Rattle.lg_tree.specs.declared.trees.Statement.{Statement}
+use Rattle.lg_tree.specs.declared.trees.Line.{Line}
 use Rattle.lg_grammar.specs.declared.scripts.ScriptEnd.{ScriptEnd}
 use Rattle.lg_grammar.specs.declared.scripts.ScriptEnd.TheVariants.{Syntax, NoMemory}
 

@@ -1,20 +1,38 @@
--- What stands from a place of a line's tokens on.
-use Rattle.std.specs.Prelude.{ℕ, List, drop, ⊤}
-use Rattle.lg_grammar.specs.Token.{Token, tokens_of}
-use Rattle.lg_lex.specs.declared.tokens.Token.{Token as Span}
-use Rattle.lg_lex.specs.declared.tokens.TokenKind.{TokenKind}
-use Rattle.lg_lex.specs.declared.tokens.TokenKind.TheVariants.{Word, Number}
+-- How the code's values are seen, and what a function that parses ensures: the parser's outcome,
+-- unless memory fails.
+use Rattle.std.specs.Prelude.{◌≡◌, Option, Some, None, Result, Ok, Err, List, map, ⊤}
+use Rattle.lg_grammar.specs.Terminal.{Terminal, name, keyword, number, sign}
+use Rattle.lg_grammar.specs.Parsing.{Outcome}
+use Rattle.lg_grammar.specs.declared.terminals.Terminal.{Terminal as Piece}
+use Rattle.lg_grammar.specs.declared.terminals.Terminal.TheVariants.{Name, Keyword, Number, Sign}
+use Rattle.lg_grammar.specs.declared.cursor.Cursor.{Cursor}
+use Rattle.lg_grammar.specs.declared.ends.ParseEnd.{ParseEnd}
+use Rattle.lg_grammar.specs.declared.ends.ParseEnd.TheVariants.{Syntax, NoMemory}
 
--- tokens, as the definitions have them
-abbrev pub Tokens : Type 0
-Tokens = List Token
+abbrev pub terminal_of : Piece → Terminal
+terminal_of (Name w) = name w.now
+terminal_of (Keyword w) = keyword w
+terminal_of (Number n) = number n
+terminal_of (Sign k) = sign k
 
--- the tokens from a place on
-abbrev pub left : List ℕ → List Span → ℕ → List Token
-left line tokens place = drop place (tokens_of line tokens)
+abbrev pub terminals_view : List Piece → List Terminal
+terminals_view ts = map terminal_of ts
 
--- the kind of an operator, which has no text of its own
-abbrev pub IsSign : TokenKind → Type 0
-IsSign Word = ⊥
-IsSign Number = ⊥
-IsSign kind = ⊤
+-- the terminals that are not read yet
+unfoldable pub ahead : Cursor → List Terminal
+ahead c = terminals_view c.rest.now
+
+abbrev pub same : {A : Type 0} → A → A
+same a = a
+
+-- the outcome is this result, and these terminals are left
+abbrev pub Reads : {A B : Type 0} → (B → A) → Outcome A → Result B ParseEnd → List Terminal → Type 0
+Reads view outcome (Ok b) rest = outcome ≡ Some (view b, rest)
+Reads view outcome (Err Syntax) rest = outcome ≡ None
+Reads view outcome (Err NoMemory) rest = ⊤
+
+-- the value is this result
+abbrev pub Gives : {A B : Type 0} → (B → A) → Option A → Result B ParseEnd → Type 0
+Gives view value (Ok b) = value ≡ Some (view b)
+Gives view value (Err Syntax) = value ≡ None
+Gives view value (Err NoMemory) = ⊤

@@ -5,9 +5,9 @@ use Rattle.std.specs.List.{slice_split}
 use Rattle.lg_lex.specs.Bytes.{is_blank}
 use Rattle.lg_lex.specs.Line.{Reads}
 use Rattle.lg_lex.specs.declared.tokens.Token.{Token}
-use Rattle.lg_grammar.specs.Token.{tokens_of}
-use Rattle.lg_grammar.specs.Tree.{StatementTree, LineTree}
-use Rattle.lg_grammar.specs.Grammar.{SpellsStatement}
+use Rattle.lg_grammar.specs.Lexed.{terminals_of}
+use Rattle.lg_tree.specs.Tree.{StatementTree, LineTree}
+use Rattle.lg_grammar.specs.Statements.{HoldsStatement}
 
 -- the lines: the bytes are cut at each byte 10
 abbrev pub lines_of : List ℕ → List (List ℕ)
@@ -26,7 +26,7 @@ pub record SpellsLine (line : List ℕ) (statement : StatementTree) : Type 0 whe
   pub tokens : List Token
   pub indented : IsIndented 0 line
   pub lexed : Reads line tokens
-  pub spelled : SpellsStatement (tokens_of line tokens) statement
+  pub held : HoldsStatement (terminals_of line tokens) statement
 
 -- the line has no token
 abbrev pub IsSkipped : List ℕ → Type 0

@@ -1,17 +1,27 @@
-//! The reader of scripts: trees and the grammar over the tokens of lines.
+//! The reader of scripts: the grammar.
 #![tactic(auto)]
 
+mod brackets;
+mod calls;
+mod cursor;
+mod ends;
 mod examples;
+mod grammar;
+mod keywords;
 pub mod laws;
-mod parsing;
-mod places;
+mod lists;
+mod nodes;
+mod operands;
+mod operators;
+mod parsed;
+mod rules;
 mod scripts;
-mod trees;
-mod words;
+mod statements;
+mod terminals;
+mod types;
 
-pub use examples::{heights_by_example, lines_by_example, nodes_by_example};
+pub use examples::{
+    brackets_by_example, limits_by_example, lines_by_example, operators_by_example,
+    words_by_example,
+};
 pub use scripts::{ScriptEnd, read_script};
-pub use trees::{Expr, Line, Script, Statement};
-
-#[cfg(test)]
-mod tests;

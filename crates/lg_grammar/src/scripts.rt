@@ -4,14 +4,16 @@ ghost use Rattle.std.specs.Prelude.{◌≡◌, ◌+◌, ◌<◌, ◌≤◌, ◌^
 ghost use Rattle.std.specs.Bool.{OnTrue, OnFalse};
 ghost use Rattle.std.specs.List.{prefix_len};
 ghost use Rattle.lg_grammar.specs.Script.{IsIndented, Spells};
-ghost use Rattle.lg_grammar.specs.Tree.{line_nodes};
-ghost use Rattle.lg_grammar.specs.View.{script_of};
+ghost use Rattle.lg_tree.specs.Tree.{line_nodes};
+ghost use Rattle.lg_tree.specs.View.{script_of};
 ghost use Rattle.lg_grammar.specs.Lines.{lines_view, lines_from, HoldsLine, EndsLine, AddsLine, EndsAdding};
 ghost use Rattle.lg_grammar.specs.Ends.{ScriptTree, SpellsNone, NamesFirstBad};
 
-use crate::parsing::{ParseEnd, statement};
-use crate::trees::{Line, Script, Statement};
+use crate::ends::ParseEnd;
+use crate::statements::statement;
+use crate::terminals::as_terminals;
 use lg_lex::{LexEnd, is_blank, lex_line};
+use lg_tree::{Line, Script, Statement};
 use sqlite_items::Items;
 use std::alloc::Global;
 use thiserror::Error;
@@ -122,7 +124,10 @@ fn read_line(alloc: Global, number: u64, line: &[u8]) -> Result<Option<Statement
     if starts_blank(line) {
         return Err(ScriptEnd::Syntax { line: number });
     }
-    match statement(alloc, line, &tokens) {
+    let Ok(terminals) = as_terminals(alloc, line, &tokens) else {
+        return Err(ScriptEnd::NoMemory);
+    };
+    match statement(alloc, &terminals) {
         Ok(statement) => Ok(Some(statement)),
         Err(ParseEnd::Syntax) => Err(ScriptEnd::Syntax { line: number }),
         Err(ParseEnd::NoMemory) => Err(ScriptEnd::NoMemory),

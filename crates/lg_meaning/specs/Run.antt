@@ -1,7 +1,7 @@
 -- What a whole script prints, and how it ends. This project's own.
 use Rattle.std.specs.Prelude.{ℕ, List, [], ◌∷◌, ◌++◌, Option, Some, None}
 use Rattle.std.specs.FinMap.{empty}
-use Rattle.lg_grammar.specs.Tree.{LineTree}
+use Rattle.lg_tree.specs.Tree.{LineTree}
 use Rattle.lg_meaning.specs.declared.fault.FaultKind.{FaultKind}
 use Rattle.lg_meaning.specs.Memory.{State}
 use Rattle.lg_meaning.specs.Step.{step}

@@ -1,77 +1,171 @@
--- The value of an expression, or its first fault. After NumPy's reference, "numpy.full",
--- "Broadcasting" and "numpy.add".
-use Rattle.std.specs.Prelude.{ℕ, ◌^◌, nat_lt, if◌then◌else◌, List, [], ◌∷◌, map, replicate, zip, Option, Some, None, Result, Ok, Err, ℤ, pos}
+-- The numbers of an expression without a static fault, and the first fault of its elements. After
+-- NumPy's reference, "Math operations", "numpy.where" and "numpy.arange". The fault of a part comes
+-- before that of the operation on it, parts from left to right; an element with a fault is 0, which
+-- is this project's own.
+use Rattle.std.specs.Prelude.{ℕ, List, [], ◌∷◌, ◌++◌, map, replicate, zip, Option, Some, None, Result, Ok, Err, ℤ, pos, ◌+ℤ◌, if◌then◌else◌, slice_index_or}
+use Rattle.std.specs.List.{range_with_len}
+use Rattle.std.specs.Int.{from_bool}
 use Rattle.std.specs.FinMap.{get}
-use Rattle.lg_elem.specs.declared.dtype.DType.{DType}
-use Rattle.lg_elem.specs.declared.dtype.DType.TheVariants.{Int64}
-use Rattle.lg_elem.specs.declared.kinds.Binary.TheVariants.{Add}
-use Rattle.lg_elem.specs.Operations.{binary_of}
-use Rattle.lg_grammar.specs.Tree.{Tree, name, full, add}
+use Rattle.lg_elem.specs.declared.kinds.Binary.{Binary}
+use Rattle.lg_elem.specs.declared.kinds.Binary.TheVariants as binary
+use Rattle.lg_elem.specs.declared.kinds.Unary.{Unary}
+use Rattle.lg_elem.specs.declared.kinds.Unary.TheVariants.{Neg, Invert, Abs}
+use Rattle.lg_elem.specs.declared.kinds.Compare.{Compare}
+use Rattle.lg_elem.specs.declared.kinds.Flag.{Flag}
+use Rattle.lg_elem.specs.declared.kinds.Flag.TheVariants.{Clear, Divisor as NoQuotient, Power as NoPower}
+use Rattle.lg_elem.specs.Types.{wrap}
+use Rattle.lg_elem.specs.Operations.{is_zero, unary_of, value_of, flag_of, compare_of}
+use Rattle.lg_shape.specs.Shapes.{size_of, broadcast}
+use Rattle.lg_tree.specs.Tree.{Tree, number, truth, name, neg, invert, arith, compare, full, zeros, ones, arange, array, abs, minimum, maximum, choose, MaybeTree, no_tree, some_tree, ListTree, leaf, list, ListTrees, no_lists, more_lists}
 use Rattle.lg_meaning.specs.declared.fault.FaultKind.{FaultKind}
-use Rattle.lg_meaning.specs.declared.fault.FaultKind.TheVariants.{Name, Shape, Limit}
-use Rattle.lg_shape.specs.Shapes.{joined_shape, broadcast}
-use Rattle.lg_meaning.specs.Memory.{View, Memory, Names, viewed}
+use Rattle.lg_meaning.specs.declared.fault.FaultKind.TheVariants.{Divisor, Power}
+use Rattle.lg_meaning.specs.Weak.{number_of}
+use Rattle.lg_meaning.specs.Faults.{first_fault}
+use Rattle.lg_meaning.specs.Memory.{ArrayKind, Bound, Memory, Names, viewed}
+use Rattle.lg_meaning.specs.Memory as bound
+use Rattle.lg_meaning.specs.Static.{Static, weak_value, array_value, operation, static_of}
 
--- the greatest extent that an array may have. This project's own
-abbrev pub MAX_EXTENT : ℕ
-MAX_EXTENT = 2 ^ 24
-
--- what is known of a value before an element is computed
-pub record Static : Type 0 where
-  pub dtype : DType
+-- the numbers in row-major order of the shape
+pub record Value : Type 0 where
   pub shape : List ℕ
+  pub numbers : List ℤ
+  pub fault : Option FaultKind
 
--- a name's value; a name that is not bound is a fault
-abbrev pub named : Option View → Result Static FaultKind
-named None = Err Name
-named (Some view) = Ok (record { dtype = view.dtype; shape = view.shape })
+-- ---- operations on elements
 
--- so many int64 elements on one axis; a size past the limit is a fault
-abbrev pub filled : ℕ → Result Static FaultKind
-filled n = if nat_lt MAX_EXTENT n then Err Limit else Ok (record { dtype = Int64; shape = n ∷ [] })
+-- the numbers of a value, repeated to a shape
+abbrev pub spread : List ℕ → Value → List ℤ
+spread shape v = broadcast v.shape v.numbers shape
 
--- the sum of two values, of their one type; shapes that don't broadcast are a fault
-abbrev pub shaped : DType → Option (List ℕ) → Result Static FaultKind
-shaped dtype None = Err Shape
-shaped dtype (Some shape) = Ok (record { dtype = dtype; shape = shape })
+abbrev pub flagged : Flag → Option FaultKind
+flagged Clear = None
+flagged NoQuotient = Some Divisor
+flagged NoPower = Some Power
 
--- the faults of the parts come first, from left to right
-abbrev pub summed : Result Static FaultKind → Result Static FaultKind → Result Static FaultKind
-summed (Err kind) right = Err kind
-summed (Ok a) (Err kind) = Err kind
-summed (Ok a) (Ok b) = shaped a.dtype (joined_shape a.shape b.shape)
+-- the numbers for each two operands, and the first fault of the divisors or exponents
+abbrev pub binary_numbers : Binary → ArrayKind → List ℤ → List ℤ → List ℤ
+binary_numbers op kind xs ys = map (λ p. value_of op kind.dtype p.0 p.1) (zip xs ys)
 
--- type and shape of an expression, or its first static fault
-abbrev pub static_of : Tree → Names → Result Static FaultKind
-static_of (name w) names = named (get names w)
-static_of (full n x) names = filled n
-static_of (add a b) names = summed (static_of a names) (static_of b names)
+abbrev pub binary_fault : Binary → List ℤ → Option FaultKind
+binary_fault op ys = first_fault (map (λ y. flagged (flag_of op y)) ys)
 
--- the shape and the type where there is no fault
-abbrev pub shape_or_none : Result Static FaultKind → List ℕ
-shape_or_none (Err kind) = []
-shape_or_none (Ok s) = s.shape
+-- an operation on two operands
+abbrev pub binary_value : Binary → Value → Value → ArrayKind → Value
+binary_value op a b kind = record {
+  shape = kind.shape;
+  numbers = binary_numbers op kind (spread kind.shape a) (spread kind.shape b);
+  fault = first_fault
+      (a.fault ∷ b.fault ∷ binary_fault op (spread kind.shape b) ∷ []);
+}
 
-abbrev pub dtype_or_int64 : Result Static FaultKind → DType
-dtype_or_int64 (Err kind) = Int64
-dtype_or_int64 (Ok s) = s.dtype
+abbrev pub compare_value : Compare → Value → Value → ArrayKind → Value
+compare_value op a b kind = record {
+  shape = kind.shape;
+  numbers = map (λ p. pos (from_bool (compare_of op p.0 p.1)))
+      (zip (spread kind.shape a) (spread kind.shape b));
+  fault = first_fault (a.fault ∷ b.fault ∷ []);
+}
 
--- the numbers that a name stands for
-abbrev pub named_numbers : Memory → Option View → List ℤ
-named_numbers memory None = []
-named_numbers memory (Some view) = viewed memory view
+abbrev pub unary_value : Unary → Value → ArrayKind → Value
+unary_value op a kind =
+    record { shape = kind.shape; numbers = map (unary_of op kind.dtype) a.numbers; fault = a.fault }
 
--- the sums of the members of two lists, of one type
-abbrev pub sums : DType → List ℤ → List ℤ → List ℤ
-sums dtype xs ys = map (λ p. (binary_of Add dtype p.0 p.1).0) (zip xs ys)
+-- the one number where the condition is not 0, and the other where it is
+abbrev pub chosen : ℤ → ℤ × ℤ → ℤ
+chosen c p = if is_zero c then p.1 else p.0
 
--- the numbers of an expression without a static fault, in row-major order. No operation so far has
--- a fault of its elements
-abbrev pub value_of : Tree → Memory → Names → List ℤ
-value_of (name w) memory names = named_numbers memory (get names w)
-value_of (full n x) memory names = replicate n (pos x)
-value_of (add a b) memory names =
-    let shape = shape_or_none (static_of (add a b) names) in
-    sums (dtype_or_int64 (static_of (add a b) names))
-    (broadcast (shape_or_none (static_of a names)) (value_of a memory names) shape)
-    (broadcast (shape_or_none (static_of b names)) (value_of b memory names) shape)
+abbrev pub choose_value : Value → Value → Value → ArrayKind → Value
+choose_value c a b kind = record {
+  shape = kind.shape;
+  numbers = map (λ p. chosen p.0 p.1)
+      (zip (spread kind.shape c) (zip (spread kind.shape a) (spread kind.shape b)));
+  fault = first_fault (c.fault ∷ a.fault ∷ b.fault ∷ []);
+}
+
+-- ---- arrays that are made
+
+-- numbers without a fault
+abbrev pub plain : List ℕ → List ℤ → Value
+plain shape numbers = record { shape = shape; numbers = numbers; fault = None }
+
+-- the number of a value without axes
+abbrev pub only : Value → ℤ
+only v = slice_index_or v.numbers 0 (pos 0)
+
+-- every element this number, as the type has it
+abbrev pub filled : ℤ → ArrayKind → Value
+filled x kind = plain kind.shape (replicate (size_of kind.shape) (wrap kind.dtype x))
+
+-- each number one more than the one before it
+abbrev pub counted : ℤ → ArrayKind → Value
+counted from kind =
+    plain kind.shape (map (λ k. from +ℤ pos k) (range_with_len 0 (size_of kind.shape)))
+
+abbrev pub listed : List ℤ → ArrayKind → Value
+listed xs kind = plain kind.shape (map (wrap kind.dtype) xs)
+
+-- ---- expressions
+
+-- a weak value is its number; of an array this is the value; where there is a static fault nothing
+-- is asked
+abbrev pub valued : Result Static FaultKind → (ArrayKind → Value) → Value
+valued (Ok (weak_value w)) value = plain [] (number_of w ∷ [])
+valued (Ok (array_value kind)) value = value kind
+valued (Err fault) value = plain [] []
+
+-- what a name stands for
+abbrev pub shown : Memory → Option Bound → ArrayKind → Value
+shown memory (Some (bound.array view)) kind = plain kind.shape (viewed memory view)
+shown memory (Some (bound.weak w)) kind = plain [] []
+shown memory None kind = plain [] []
+
+abbrev mutual
+  pub evaluated : Tree → Memory → Names → Value
+  evaluated (number n) memory names = plain [] (pos n ∷ [])
+  evaluated (truth b) memory names = plain [] (pos (from_bool b) ∷ [])
+  evaluated (name w) memory names =
+      valued (static_of (name w) names) (shown memory (get names w))
+  evaluated (neg a) memory names =
+      valued (static_of (neg a) names) (unary_value Neg (evaluated a memory names))
+  evaluated (invert a) memory names =
+      valued (static_of (invert a) names) (unary_value Invert (evaluated a memory names))
+  evaluated (arith op a b) memory names =
+      valued (static_of (arith op a b) names)
+      (binary_value (operation op) (evaluated a memory names) (evaluated b memory names))
+  evaluated (compare op a b) memory names =
+      valued (static_of (compare op a b) names)
+      (compare_value op (evaluated a memory names) (evaluated b memory names))
+  evaluated (full s x t) memory names =
+      valued (static_of (full s x t) names) (filled (only (evaluated x memory names)))
+  evaluated (zeros s t) memory names = valued (static_of (zeros s t) names) (filled (pos 0))
+  evaluated (ones s t) memory names = valued (static_of (ones s t) names) (filled (pos 1))
+  evaluated (arange from to t) memory names =
+      valued (static_of (arange from to t) names) (counted (first_bound from memory names))
+  evaluated (array l t) memory names =
+      valued (static_of (array l t) names) (listed (list_numbers l memory names))
+  evaluated (abs a) memory names =
+      valued (static_of (abs a) names) (unary_value Abs (evaluated a memory names))
+  evaluated (minimum a b) memory names =
+      valued (static_of (minimum a b) names)
+      (binary_value binary.Min (evaluated a memory names) (evaluated b memory names))
+  evaluated (maximum a b) memory names =
+      valued (static_of (maximum a b) names)
+      (binary_value binary.Max (evaluated a memory names) (evaluated b memory names))
+  evaluated (choose c a b) memory names =
+      valued (static_of (choose c a b) names)
+      (choose_value (evaluated c memory names) (evaluated a memory names)
+      (evaluated b memory names))
+
+  pub first_bound : MaybeTree → Memory → Names → ℤ
+  first_bound no_tree memory names = pos 0
+  first_bound (some_tree e) memory names = only (evaluated e memory names)
+
+  -- the numbers in nested lists, in the order in which they are written
+  pub list_numbers : ListTree → Memory → Names → List ℤ
+  list_numbers (leaf e) memory names = only (evaluated e memory names) ∷ []
+  list_numbers (list ls) memory names = lists_numbers ls memory names
+
+  pub lists_numbers : ListTrees → Memory → Names → List ℤ
+  lists_numbers no_lists memory names = []
+  lists_numbers (more_lists l ls) memory names =
+      list_numbers l memory names ++ lists_numbers ls memory names

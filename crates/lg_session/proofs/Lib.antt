@@ -1,10 +1,25 @@
-pub mod Placing
-pub mod Sums
-pub mod Broadcasts
-pub mod RowTiles
-pub mod Views
-pub mod Values
-pub mod States
+mod WeakLemmas
+pub mod Links
 pub mod NameLemmas
+pub mod ReachLemmas
+pub mod HeldLemmas
+pub mod RangeLemmas
+pub mod FormLemmas
+pub mod TreeLemmas
+pub mod ListLemmas
+pub mod ShapeLemmas
+pub mod StepLemmas
+mod LimitLemmas
+mod Rows
+mod Tilings
+mod Fits
+mod Spreads
+mod Shapes
+mod Lendings
+mod Joins
+mod Statics
+mod Values
+mod Made
+mod Written
+pub mod StatementLemmas
 pub mod Printing
-pub mod Seen

@@ -1,27 +1,37 @@
 -- What performing a statement answers, and what it does to the session.
-use Rattle.std.specs.Prelude.{◌≡◌, ℕ, List, None, Some, Result, Ok, Err, ⊤, Vec}
+use Rattle.std.specs.Prelude.{◌≡◌, ℕ, Bool, List, None, Some, Result, Ok, Err, ⊤, Vec}
 use Rattle.std.specs.declared.alloc.Global.{Global}
-use Rattle.lg_grammar.specs.Tree.{Tree, StatementTree, bind, print, LineTree}
+use Rattle.lg_tree.specs.Tree.{Tree, StatementTree, bind, print, LineTree}
 use Rattle.lg_meaning.specs.Memory.{State}
 use Rattle.lg_meaning.specs.Step.{step}
 use Rattle.lg_meaning.specs.declared.fault.FaultKind.{FaultKind}
-use Rattle.lg_session.specs.Standing.{Stands}
+use Rattle.lg_session.specs.Roots.{contents}
+use Rattle.lg_session.specs.Stored as stored
+use Rattle.lg_session.specs.Standing.{StandsFor}
 use Rattle.lg_session.specs.declared.session.Session.{Session}
 use Rattle.lg_session.specs.declared.session.StopEnd.{StopEnd}
 use Rattle.lg_session.specs.declared.session.StopEnd.TheVariants.{Fault as FaultAt, NoMemory as NoRoom}
-use Rattle.lg_session.specs.declared.evaluation.EvaluateEnd.{EvaluateEnd}
-use Rattle.lg_session.specs.declared.evaluation.EvaluateEnd.TheVariants.{Fault, NoMemory}
+use Rattle.lg_session.specs.declared.operations.end.EvaluateEnd.{EvaluateEnd}
+use Rattle.lg_session.specs.declared.operations.end.EvaluateEnd.TheVariants.{Fault, NoMemory}
 
 -- into how many tiles an operation is cut at most
 abbrev pub pieces_of : Session → ℕ
 pieces_of session = session.pieces
+
+-- whether a statement was not performed as it stands
+abbrev pub is_spent : Session → Bool
+is_spent session = session.spent
+
+-- the root of this number is not there where no name reaches it
+abbrev pub IsTidyAt : Session → ℕ → Type 0
+IsTidyAt session root = stored.IsTidyAt (contents session.roots) session.names root
 
 -- the statement has no fault, it prints this text, and the session stands for the state after it
 pub record Executes (statement : StatementTree) (state : State) (text : List ℕ)
     (session : Session) : Type 0 where
   pub sound : (step statement state).fault ≡ None
   pub printed : (step statement state).text ≡ text
-  pub stands : Stands session (step statement state).state
+  pub stands : StandsFor session (step statement state).state
 
 -- the same of the statement of a line
 abbrev pub Performs : LineTree → State → List ℕ → Session → Type 0
@@ -46,7 +56,7 @@ IsExecuted statement state (Err NoMemory) session = ⊤
 -- the assignment has no fault, and the session stands for the state after it
 pub record Binds (w : List ℕ) (e : Tree) (state : State) (session : Session) : Type 0 where
   pub sound : (step (bind w e) state).fault ≡ None
-  pub stands : Stands session (step (bind w e) state).state
+  pub stands : StandsFor session (step (bind w e) state).state
 
 -- the answer of an assignment
 abbrev pub IsBound : List ℕ → Tree → State → Session → Result (Unit {0}) EvaluateEnd → Type 0

@@ -1,30 +1,23 @@
--- When the code's names stand for a state of the definition.
-use Rattle.std.specs.Prelude.{◌≡◌, ℕ, List, Option, None, Some, ⊤, slice_get}
+-- When a session stands for a state of the definition.
+use Rattle.std.specs.Prelude.{slice_get}
 use Rattle.std.specs.FinMap.{get}
-use Rattle.lg_meaning.specs.Memory.{Root, View, Memory, State, viewed}
+use Rattle.lg_meaning.specs.Memory.{State}
+use Rattle.lg_session.specs.Worlds.{Roots, Names, Stands, AreInside}
 use Rattle.lg_session.specs.Names.{environment}
+use Rattle.lg_session.specs.Roots.{contents}
 use Rattle.lg_session.specs.declared.session.Session.{Session}
 
--- a view of a root that is there shows this array
-pub record Shows (memory : Memory) (view : View) (array : Root) : Type 0 where
-  pub root : Root
-  pub held : slice_get memory view.root ≡ Some root
-  pub dtype : view.dtype ≡ array.dtype
-  pub shape : view.shape ≡ array.shape
-  pub same : viewed memory view ≡ array.numbers
+-- the state as a world
+abbrev pub roots_in : State → Roots
+roots_in state = slice_get state.memory
 
--- the same name in the code and in the definition: both are unbound, or one shows the array of the
--- other
-abbrev pub StandsFor : Memory → Option Root → Option View → Type 0
-StandsFor memory None None = ⊤
-StandsFor memory None (Some view) = ⊥
-StandsFor memory (Some array) None = ⊥
-StandsFor memory (Some array) (Some view) = Shows memory view array
+abbrev pub names_in : State → Names
+names_in state = get state.names
 
--- each name stands for the array that the state has under it
-abbrev pub AllStand : (List ℕ → Option Root) → State → Type 0
-AllStand arrays state = (w : List ℕ) → StandsFor state.memory (arrays w) (get state.names w)
+-- a world stands for the state, whose views are of roots that are there
+pub record Represents (roots : Roots) (names : Names) (state : State) : Type 0 where
+  pub sound : AreInside (roots_in state) (names_in state)
+  pub stands : Stands roots (roots_in state) names (names_in state)
 
--- the session's names stand for the arrays of the state
-abbrev pub Stands : Session → State → Type 0
-Stands session = AllStand (environment session.names)
+abbrev pub StandsFor : Session → State → Type 0
+StandsFor session = Represents (contents session.roots) (environment session.names)

@@ -1,101 +1,178 @@
-ghost use Rattle.std.specs.Prelude.{◌≡◌};
-ghost use Rattle.lg_grammar.specs.Tree.{name, full as full_tree};
-ghost use Rattle.lg_grammar.specs.View.{tree_of};
+//! The walk over an expression: each part is evaluated once, from left to right, and then the
+//! operation on the parts.
+ghost use Rattle.std.specs.Prelude.{◌≡◌, ◌+◌, length, IfOk, OnOk, option_map};
+ghost use Rattle.lg_tree.specs.Tree.{name as name_tree};
+ghost use Rattle.lg_tree.specs.View.{tree_of, list_of, shape_of, maybe_tree};
 ghost use Rattle.lg_meaning.specs.Memory.{State};
-ghost use Rattle.lg_session.specs.declared.evaluation.EvaluateEnd.TheVariants.{NoMemory as NoRoom};
-ghost use Rattle.lg_session.specs.Standing.{Stands};
-ghost use Rattle.lg_session.specs.Evaluation.{IsOutcome};
+ghost use Rattle.lg_session.specs.Roots.{contents};
+ghost use Rattle.lg_session.specs.Standing.{StandsFor};
+ghost use Rattle.lg_session.specs.Values.{IsUsable, IsOutcome, IsFirstBound, IsExtent};
+ghost use Rattle.lg_session.specs.Lists.{leaves, IsGathered};
 
-use crate::adding::add;
-use crate::filling::full;
+use crate::forms::{
+    arithmetic, array_of_ones, array_of_zeros, choice, comparison, counted_array, full_array,
+    listed_array, negative, one_operand, two_operands,
+};
+use crate::lists::{Members, list_shape};
+use crate::names::Bound;
+use crate::operations::{EvaluateEnd, Weak};
 use crate::session::Session;
-use crate::vector::Array;
-use lg_grammar::Expr;
+use crate::value::Value;
+use lg_elem::{Binary, Unary};
 use lg_meaning::FaultKind;
-use lg_outside::NoMemory as OutOfMemory;
-use std::alloc::{AllocError, AllocFailed, Global};
-use std::rc::Rc;
+use lg_tree::{Expr, ListExpr, ShapeExpr};
+use sqlite_items::Boxed;
+use std::alloc::Global;
 
-/// The greatest extent of an array.
-const MAX_EXTENT: u32 = 16_777_216;
-
-/// Why an expression has no value, or a statement was not performed.
-#[derive(Clone, Copy, Debug)]
-pub enum EvaluateEnd {
-    /// The first fault.
-    Fault(FaultKind),
-
-    /// There was not enough memory.
-    NoMemory,
-}
-
-impl From<AllocError> for EvaluateEnd {
-    ghost from_gives = { λ _ end. end ≡ NoRoom };
-
-    fn from(_: AllocError) -> EvaluateEnd {
-        EvaluateEnd::NoMemory
-    }
-}
-
-impl<T: Drop> From<AllocFailed<T>> for EvaluateEnd {
-    ghost from_gives = { λ _ end. end ≡ NoRoom };
-
-    fn from(_: AllocFailed<T>) -> EvaluateEnd {
-        EvaluateEnd::NoMemory
-    }
-}
-
-impl From<OutOfMemory> for EvaluateEnd {
-    ghost from_gives = { λ _ end. end ≡ NoRoom };
-
-    fn from(_: OutOfMemory) -> EvaluateEnd {
-        EvaluateEnd::NoMemory
-    }
-}
-
-/// The array that an expression stands for.
+/// What an expression stands for.
 ///
 /// # Errors
 ///
-/// The expression's first fault, and `NoMemory`.
-pub fn evaluate(alloc: Global, session: &Session, value: &Expr) -> Result<Array, EvaluateEnd>
-    ensures { (state : State) → Stands session.now state
-        → IsOutcome (tree_of value.now) state result }
+/// The expression's first static fault, and `NoMemory`.
+#[cycle(walk)]
+pub(crate) fn evaluate(alloc: Global, session: &Session, value: &Expr) -> Result<Value, EvaluateEnd>
+    ensures usable { IfOk result (IsUsable (contents session.now.roots)) }
+    ensures outcome { (state : State) → StandsFor session.now state
+        → IsOutcome (tree_of value.now) state session.now result }
 {
     match value {
-        Expr::Name(name) => evaluate_name(session, name.as_slice()),
-        Expr::Full { extent, value } => evaluate_full(alloc, session, *extent, *value),
-        Expr::Add(left, right) => {
-            let left = evaluate(alloc, session, left.get())?;
-            let right = evaluate(alloc, session, right.get())?;
-            let sums = add(alloc, session.pieces, &left, &right)?;
-            Ok(Rc::new(alloc, sums)?)
+        Expr::Number(n) => Ok(Value::Weak(Weak::Integer(i128::from(*n)))),
+        Expr::Truth(b) => Ok(Value::Weak(Weak::Truth(*b))),
+        Expr::Name(name) => named(session, name.as_slice()),
+        Expr::Neg(a) => {
+            let a = evaluate(alloc, session, a.get())?;
+            negative(alloc, session, &a)
+        }
+        Expr::Invert(a) => {
+            let a = evaluate(alloc, session, a.get())?;
+            one_operand(alloc, session, Unary::Invert, &a)
+        }
+        Expr::Abs(a) => {
+            let a = evaluate(alloc, session, a.get())?;
+            one_operand(alloc, session, Unary::Abs, &a)
+        }
+        Expr::Arith(op, a, b) => {
+            let a = evaluate(alloc, session, a.get())?;
+            let b = evaluate(alloc, session, b.get())?;
+            arithmetic(alloc, session, *op, &a, &b)
+        }
+        Expr::Compare(op, a, b) => {
+            let a = evaluate(alloc, session, a.get())?;
+            let b = evaluate(alloc, session, b.get())?;
+            comparison(alloc, session, *op, &a, &b)
+        }
+        Expr::Minimum(a, b) => {
+            let a = evaluate(alloc, session, a.get())?;
+            let b = evaluate(alloc, session, b.get())?;
+            two_operands(alloc, session, Binary::Min, &a, &b)
+        }
+        Expr::Maximum(a, b) => {
+            let a = evaluate(alloc, session, a.get())?;
+            let b = evaluate(alloc, session, b.get())?;
+            two_operands(alloc, session, Binary::Max, &a, &b)
+        }
+        Expr::Where(condition, a, b) => {
+            let condition = evaluate(alloc, session, condition.get())?;
+            let a = evaluate(alloc, session, a.get())?;
+            let b = evaluate(alloc, session, b.get())?;
+            choice(alloc, session, &condition, &a, &b)
+        }
+        Expr::Full(shape, x, dtype) => {
+            let extent = evaluate_extent(alloc, session, shape)?;
+            let x = evaluate(alloc, session, x.get())?;
+            full_array(alloc, session, &extent, &x, *dtype)
+        }
+        Expr::Zeros(shape, dtype) => {
+            let extent = evaluate_extent(alloc, session, shape)?;
+            array_of_zeros(alloc, session, &extent, *dtype)
+        }
+        Expr::Ones(shape, dtype) => {
+            let extent = evaluate_extent(alloc, session, shape)?;
+            array_of_ones(alloc, session, &extent, *dtype)
+        }
+        Expr::Arange(from, to, dtype) => {
+            let from = evaluate_first_bound(alloc, session, from)?;
+            let to = evaluate(alloc, session, to.get())?;
+            counted_array(alloc, session, &from, &to, *dtype)
+        }
+        Expr::Array(list, dtype) => {
+            let mut members = Members::new(alloc);
+            gather(alloc, session, list, &mut members)?;
+            let shape = list_shape(alloc, list)?;
+            listed_array(alloc, session, &members, shape, *dtype)
         }
     }
 }
 
-// The array that a name stands for.
-fn evaluate_name(session: &Session, word: &[u8]) -> Result<Array, EvaluateEnd>
-    ensures { (state : State) → Stands session.now state → IsOutcome (name word.now) state result }
+// The bound from which `arange` counts, 0 where it is left out.
+#[cycle(walk)]
+fn evaluate_first_bound(
+    alloc: Global,
+    session: &Session,
+    from: &Option<Boxed<Expr>>,
+) -> Result<Value, EvaluateEnd>
+    ensures usable { IfOk result (IsUsable (contents session.now.roots)) }
+    ensures outcome { (state : State) → StandsFor session.now state
+        → IsFirstBound (maybe_tree (option_map tree_of from.now)) state session.now result }
 {
-    match session.names.get(word) {
-        Some(array) => Ok(array.clone()?),
-        None => Err(EvaluateEnd::Fault(FaultKind::Name)),
+    match from {
+        Some(from) => evaluate(alloc, session, from.get()),
+        None => Ok(Value::Weak(Weak::Integer(0))),
     }
 }
 
-// So many elements, all with one number.
-fn evaluate_full(
+// The one extent of a shape.
+#[cycle(walk)]
+fn evaluate_extent(
     alloc: Global,
     session: &Session,
-    extent: u32,
-    value: u32,
-) -> Result<Array, EvaluateEnd>
-    ensures { (state : State) → IsOutcome (full_tree extent value) state result }
+    shape: &ShapeExpr,
+) -> Result<Value, EvaluateEnd>
+    ensures usable { IfOk result (IsUsable (contents session.now.roots)) }
+    ensures outcome { (state : State) → StandsFor session.now state
+        → IsExtent (shape_of shape.now) state session.now result }
 {
-    if extent > MAX_EXTENT {
-        return Err(EvaluateEnd::Fault(FaultKind::Limit));
+    match shape {
+        ShapeExpr::One(extent) => evaluate(alloc, session, extent.get()),
     }
-    let whole = full(alloc, session.pieces, extent as usize, i64::from(value))?;
-    Ok(Rc::new(alloc, whole)?)
+}
+
+// The values that stand in a list, in the order in which they are written.
+#[cycle(walk)]
+fn gather(
+    alloc: Global,
+    session: &Session,
+    list: &ListExpr,
+    members: &mut Members,
+) -> Result<(), EvaluateEnd>
+    ensures count { OnOk result (length members.new.weaks.items
+        ≡ length members.old.weaks.items + leaves (list_of list.now)) }
+    ensures gathered { (state : State) → StandsFor session.now state
+        → IsGathered (list_of list.now) state members.old members.new result }
+{
+    match list {
+        ListExpr::Leaf(value) => {
+            let value = evaluate(alloc, session, value.get())?;
+            Ok(members.push(session, &value)?)
+        }
+        ListExpr::List(lists) => {
+            for list in lists.as_slice() {
+                gather(alloc, session, list, members)?;
+            }
+            Ok(())
+        }
+    }
+}
+
+// What a name stands for.
+fn named(session: &Session, word: &[u8]) -> Result<Value, EvaluateEnd>
+    ensures usable { IfOk result (IsUsable (contents session.now.roots)) }
+    ensures outcome { (state : State) → StandsFor session.now state
+        → IsOutcome (name_tree word.now) state session.now result }
+{
+    match session.names.get(word) {
+        Some(Bound::Weak(w)) => Ok(Value::Weak(w)),
+        Some(Bound::Array(view)) => Ok(Value::Shown(view)),
+        None => Err(EvaluateEnd::Fault(FaultKind::Name)),
+    }
 }

@@ -1,4 +1,4 @@
-use Rattle.lg_grammar.specs.View.{line_of}
+use Rattle.lg_tree.specs.View.{line_of}
 use Rattle.legate.proofs.Runs.{stops_unwritten}
 use Rattle.legate.proofs.running.run_line.Goals as goal
 

@@ -1,4 +1,9 @@
-use Rattle.std.proofs.Common.{◌≡◌, [], refl, sym, ◌∙◌, vec_len}
+use Rattle.std.proofs.Common.{◌≡◌, List, [], refl, sym, ◌∙◌, subst, vec_len}
+use Rattle.lg_grammar.specs.declared.ends.ParseEnd.TheVariants.{Syntax}
+use Rattle.lg_grammar.specs.Lexed.{terminals_of}
+use Rattle.lg_grammar.specs.ParsingStatements.{EndsStatement}
+use Rattle.lg_grammar.specs.Reading.{terminals_view}
+use Rattle.lg_grammar.specs.Terminal.{Terminal}
 use Rattle.std.proofs.lemmas.Bool.{eqb-false}
 use Rattle.lg_grammar.proofs.LineLemmas.{lexes_nothing, indented_nothing, unspelled_nothing, some_tokens}
 use Rattle.lg_grammar.proofs.scripts.read_line.Goals as goal
@@ -14,4 +19,5 @@ returns-then-starts_blank-clause-end c =
 pub returns-in-Err-Syntax-clause-end : goal.returns-in-Err-Syntax-clause-end
 returns-in-Err-Syntax-clause-end c =
     let some : c.in-Ok.tokens.items ≡ [] → ⊥ = some_tokens c.in-Ok.tokens.items (vec_len c.in-Ok.tokens) c.in-Ok.tokens.ok.0 (eqb-false (vec_len c.in-Ok.tokens) 0 (sym c.is_empty.ensures ∙ c.if-is_empty.false)) in
-    (refl, unspelled_nothing c.args.line.now c.in-Ok.tokens.items c.in-Ok.ensures.tokens some (rw (c.deref.ensures.value, c.in-Err-Syntax.field-0-is) at c.in-Err-Syntax.ensures.end))
+    let view : terminals_view c.in-Ok-as_terminals.terminals.items ≡ terminals_of c.args.line.now c.in-Ok.tokens.items = rw c.deref.ensures.value at c.in-Ok-as_terminals.ensures in
+    (refl, unspelled_nothing c.args.line.now c.in-Ok.tokens.items c.in-Ok.ensures.tokens some (subst (λ (ts : List Terminal). EndsStatement ts Syntax) view (rw (c.deref-2.ensures.value, c.in-Err-Syntax.field-0-is) at c.in-Err-Syntax.ensures.end)))

@@ -18,3 +18,7 @@ returns-clause-bound c = simp gets
 pub returns-clause-lost : goal.returns-clause-lost
 unfolding digits
 returns-clause-lost c = simp gets
+
+pub returns-clause-data_fault : goal.returns-clause-data_fault
+unfolding digits
+returns-clause-data_fault c = simp gets

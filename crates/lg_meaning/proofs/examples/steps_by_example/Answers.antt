@@ -15,3 +15,19 @@ returns-clause-printed c = simp gets
 
 pub returns-clause-faulted : goal.returns-clause-faulted
 returns-clause-faulted c = simp gets
+
+pub returns-clause-weak : goal.returns-clause-weak
+returns-clause-weak c = simp gets
+
+pub returns-clause-divided : goal.returns-clause-divided
+returns-clause-divided c = simp gets
+
+pub returns-clause-zero_kept : goal.returns-clause-zero_kept
+returns-clause-zero_kept c = simp gets
+
+pub returns-clause-nothing_printed : goal.returns-clause-nothing_printed
+returns-clause-nothing_printed c = simp gets
+
+pub returns-clause-printed_great : goal.returns-clause-printed_great
+unfolding digits
+returns-clause-printed_great c = refl

@@ -1,7 +1,7 @@
-use Rattle.std.proofs.Common.{refl}
+use Rattle.lg_tree.specs.View.{line_of}
+use Rattle.lg_session.proofs.StatementLemmas.{stops_at}
 use Rattle.lg_session.proofs.session.Session.step.Goals as goal
 
-pub returns-in-Err-Fault-clause-stopped : goal.returns-in-Err-Fault-clause-stopped
-returns-in-Err-Fault-clause-stopped c = λ state stands.
-    let executed = rw c.in-Err-Fault.field-0-is at c.in-Err-Fault.ensures.outcome in
-    record { line_number = refl; fault = executed state stands }
+pub returns-in-Err-clause-stopped : goal.returns-in-Err-clause-stopped
+returns-in-Err-clause-stopped c = λ state stands.
+    rw c.at.ensures (stops_at (line_of c.args.line.now) state c.execute.new.self c.in-Err.end (c.in-Err.ensures.outcome state stands))

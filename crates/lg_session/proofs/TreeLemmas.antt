@@ -1,0 +1,61 @@
+-- How each form of an expression is seen, and what is known of its parts.
+use Rattle.std.proofs.Common.{◌≡◌, List, Option, Result, Ok, map, rules, sym, subst, option_map}
+use Rattle.lg_elem.specs.declared.dtype.DType.{DType}
+use Rattle.lg_elem.specs.declared.kinds.Compare.{Compare as CompareKind}
+use Rattle.lg_tree.specs.declared.kinds.Arith.{Arith as ArithKind}
+use Rattle.lg_tree.specs.Tree.{Tree, arith, compare, full, zeros, ones, arange, array, minimum, maximum, choose, leaf, list}
+use Rattle.lg_tree.specs.View.{tree_of, list_of, shape_of, maybe_tree, list_trees}
+use Rattle.lg_tree.specs.declared.trees.Expr.{Expr, Arith, Compare, Full, Zeros, Ones, Arange, Array, Minimum, Maximum, Where, the_lemmas}
+use Rattle.lg_tree.specs.declared.trees.ShapeExpr.{ShapeExpr}
+use Rattle.lg_tree.specs.declared.trees.ListExpr.{ListExpr, Leaf, List as Listed}
+use Rattle.lg_meaning.specs.Memory.{State}
+use Rattle.lg_session.specs.Values.{Means, IsOutcome}
+use Rattle.lg_session.specs.declared.operations.end.EvaluateEnd.{EvaluateEnd}
+use Rattle.lg_session.specs.declared.session.Session.{Session}
+use Rattle.lg_session.specs.declared.value.Value.{Value}
+
+pub tree-Arith : (op : ArithKind) (a b : Expr) → tree_of (Arith op a b) ≡ arith op (tree_of a) (tree_of b)
+tree-Arith op a b = search (rules, the_lemmas)
+
+pub tree-Compare : (op : CompareKind) (a b : Expr) → tree_of (Compare op a b) ≡ compare op (tree_of a) (tree_of b)
+tree-Compare op a b = search (rules, the_lemmas)
+
+pub tree-Minimum : (a b : Expr) → tree_of (Minimum a b) ≡ minimum (tree_of a) (tree_of b)
+tree-Minimum a b = search (rules, the_lemmas)
+
+pub tree-Maximum : (a b : Expr) → tree_of (Maximum a b) ≡ maximum (tree_of a) (tree_of b)
+tree-Maximum a b = search (rules, the_lemmas)
+
+pub tree-Where : (c a b : Expr) → tree_of (Where c a b) ≡ choose (tree_of c) (tree_of a) (tree_of b)
+tree-Where c a b = search (rules, the_lemmas)
+
+pub tree-Full : (s : ShapeExpr) (x : Expr) (t : Option DType) → tree_of (Full s x t) ≡ full (shape_of s) (tree_of x) t
+tree-Full s x t = search (rules, the_lemmas)
+
+pub tree-Zeros : (s : ShapeExpr) (t : Option DType) → tree_of (Zeros s t) ≡ zeros (shape_of s) t
+tree-Zeros s t = search (rules, the_lemmas)
+
+pub tree-Ones : (s : ShapeExpr) (t : Option DType) → tree_of (Ones s t) ≡ ones (shape_of s) t
+tree-Ones s t = search (rules, the_lemmas)
+
+pub tree-Array : (l : ListExpr) (t : Option DType) → tree_of (Array l t) ≡ array (list_of l) t
+tree-Array l t = search (rules, the_lemmas)
+
+pub tree-Arange : (m : Option Expr) (b : Expr) (t : Option DType) → tree_of (Arange m b t) ≡ arange (maybe_tree (option_map tree_of m)) (tree_of b) t
+tree-Arange m b t = search (rules, the_lemmas)
+
+pub tree-Leaf : (e : Expr) → list_of (Leaf e) ≡ leaf (tree_of e)
+tree-Leaf e = search (rules, the_lemmas)
+
+pub tree-List : (ls : List ListExpr) → list_of (Listed ls) ≡ list (list_trees (map list_of ls))
+tree-List ls = search (rules, the_lemmas)
+
+module _ (state : State) (session : Session) where
+  pub means_of : (x l : Expr) (p : Value) → x ≡ l → Means (tree_of x) state session p → Means (tree_of l) state session p
+  means_of x l p e h = subst (λ (y : Expr). Means (tree_of y) state session p) e h
+
+  pub outcome_of : (t e : Tree) (answer : Result Value EvaluateEnd) → t ≡ e → IsOutcome e state session answer → IsOutcome t state session answer
+  outcome_of t e answer same h = subst (λ (x : Tree). IsOutcome x state session answer) (sym same) h
+
+  pub outcome_at : (x l : Expr) (answer : Result Value EvaluateEnd) → x ≡ l → IsOutcome (tree_of x) state session answer → IsOutcome (tree_of l) state session answer
+  outcome_at x l answer e h = subst (λ (y : Expr). IsOutcome (tree_of y) state session answer) e h

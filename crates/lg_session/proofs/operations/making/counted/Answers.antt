@@ -1,0 +1,39 @@
+use Rattle.std.proofs.Common.{◌≡◌, ◌≤◌, [], ◌∷◌, ℕ, List, length, map, replicate, None, pos, sym, ap, subst, ◌∙◌, arith}
+use Rattle.std.proofs.lemmas.Int.{ints}
+use mir.Val.{to_z, of_z}
+use mir.Syntax.{w128}
+use Rattle.lg_elem.specs.declared.dtype.DType.TheVariants.{Int64}
+use Rattle.lg_elem.specs.Types.{wrap}
+use Rattle.lg_shape.specs.Shapes.{whole, size_of}
+use Rattle.lg_map.specs.declared.operation.MapOp.TheVariants as ops
+use Rattle.lg_map.specs.Mapping.{IsConstant, IsMap, map_values}
+use Rattle.lg_meaning.specs.Memory.{writable}
+use Rattle.lg_meaning.specs.Weak.{number_of}
+use Rattle.lg_meaning.specs.Static.{full_static, shaped, type_or, arange_static, array_static, list_type}
+use Rattle.lg_meaning.specs.Value.{filled, counted as counted_from, listed as listed_as}
+use Rattle.lg_session.specs.Operations.{weak_of}
+use Rattle.lg_session.proofs.Lendings.{kept}
+use Rattle.lg_session.proofs.Made.{value_of_parts}
+use Rattle.lg_session.proofs.Statics.{kind_with}
+use Rattle.lg_session.proofs.Written.{counted_ok, filled_same, counted_same, listed_same, new_answer, weak_constants, listed_full}
+use Rattle.lg_session.proofs.operations.making.counted.Goals as goal
+
+pub evaluate_new-requires-clause-small : goal.evaluate_new-requires-clause-small
+evaluate_new-requires-clause-small c = c.in_ok-t.ensures.small
+
+pub evaluate_new-requires-clause-map : goal.evaluate_new-requires-clause-map
+evaluate_new-requires-clause-map c =
+    let rule = c.in_ok-t.ensures.rule ∙ (λ i. arange_static (kept c.args.from c.requires.first i) (kept c.args.to c.requires.second i) c.args.dtype) in
+    let ok = counted_ok c.args.from c.args.to c.args.dtype c.in_ok-t.t c.in_ok-t.shape rule in
+    (subst IsConstant (sym (kept c.args.from c.requires.first)) c.requires.first, ap (λ s. length (whole s)) ok.row)
+
+pub returns : goal.returns
+returns c =
+    let x = to_z w128 (of_z w128 c.args.from) in
+    let t = c.in_ok-t.t in
+    let shape = c.in_ok-t.shape in
+    let rule = c.in_ok-t.ensures.rule ∙ (λ i. arange_static (kept c.args.from c.requires.first i) (kept c.args.to c.requires.second i) c.args.dtype) in
+    let ok = counted_ok c.args.from c.args.to c.args.dtype t shape rule in
+    let numbers = ap (λ y. map_values (ops.Count y) t [] (whole shape)) (kept c.args.from c.requires.first) ∙ counted_same c.args.from t shape ok in
+    new_answer (arange_static c.args.from c.args.to c.args.dtype) (counted_from c.args.from) (ops.Count x) t shape c.evaluate_new.result
+    c.evaluate_new.ensures rule (λ i. value_of_parts shape (numbers i) None)

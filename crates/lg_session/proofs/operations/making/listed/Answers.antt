@@ -1,0 +1,41 @@
+use Rattle.std.proofs.Common.{◌≡◌, ◌≤◌, [], ◌∷◌, ℕ, List, length, map, replicate, None, pos, sym, ap, subst, ◌∙◌, arith}
+use Rattle.std.proofs.lemmas.Int.{ints}
+use Rattle.std.specs.Option.{option_copied}
+use Rattle.std.proofs.lemmas.List.{length-map}
+use Rattle.lg_elem.specs.declared.dtype.DType.TheVariants.{Int64}
+use Rattle.lg_elem.specs.Types.{wrap}
+use Rattle.lg_shape.specs.Shapes.{whole, size_of}
+use Rattle.lg_map.specs.declared.operation.MapOp.TheVariants as ops
+use Rattle.lg_map.specs.Mapping.{IsConstant, IsMap, map_values}
+use Rattle.lg_meaning.specs.Memory.{writable}
+use Rattle.lg_meaning.specs.Weak.{number_of}
+use Rattle.lg_meaning.specs.Static.{full_static, shaped, type_or, arange_static, array_static, list_type}
+use Rattle.lg_meaning.specs.Value.{filled, counted as counted_from, listed as listed_as}
+use Rattle.lg_session.specs.Operations.{weak_of}
+use Rattle.lg_session.proofs.Lendings.{kept}
+use Rattle.lg_session.proofs.Made.{value_of_parts}
+use Rattle.lg_session.proofs.Statics.{kind_with}
+use Rattle.lg_session.proofs.Written.{counted_ok, filled_same, counted_same, listed_same, new_answer, weak_constants, listed_full}
+use Rattle.lg_session.proofs.operations.making.listed.Goals as goal
+
+pub evaluate_new-requires-clause-map : goal.evaluate_new-requires-clause-map
+evaluate_new-requires-clause-map c =
+    let list = map (λ w. number_of (weak_of w)) c.args.weaks.now in
+    let same : list ≡ c.from_vec-numbers.result = sym (c.from_vec-numbers.ensures ∙ c.in_ok-numbers_of.ensures) in
+    let full : length list ≡ size_of c.in_ok-t.shape =
+    length-map c.args.weaks.now (λ w. number_of (weak_of w)) ∙ listed_full c.args.shape (length c.args.weaks.now) c.in_ok-t.shape c.requires.full c.in_ok-t.ensures.given in
+    subst (λ l. IsMap (ops.List c.in_ok-t.shape l) [] (whole c.in_ok-t.shape) c.in_ok-t.t) same
+    (full, c.in_ok-t.ensures.small, (λ index inside. inside), weak_constants c.args.weaks.now c.requires.ranged)
+
+pub returns : goal.returns
+returns c =
+    let list = map (λ w. number_of (weak_of w)) c.args.weaks.now in
+    let made = c.from_vec-numbers.result in
+    let same : made ≡ list = c.from_vec-numbers.ensures ∙ c.in_ok-numbers_of.ensures in
+    let t = c.in_ok-t.t in
+    let shape = c.in_ok-t.shape in
+    let full : length list ≡ size_of shape =
+    length-map c.args.weaks.now (λ w. number_of (weak_of w)) ∙ listed_full c.args.shape (length c.args.weaks.now) shape c.requires.full c.in_ok-t.ensures.given in
+    let numbers = ap (λ l. map_values (ops.List shape l) t [] (whole shape)) same ∙ listed_same t shape list full in
+    new_answer (array_static (option_copied c.args.shape) (map weak_of c.args.weaks.now) (type_or c.args.dtype (list_type (map weak_of c.args.weaks.now)))) (listed_as list)
+    (ops.List shape made) t shape c.evaluate_new.result c.evaluate_new.ensures c.in_ok-t.ensures.rule (λ i. value_of_parts shape (numbers i) None)

@@ -1,0 +1,303 @@
+//! The forms of expressions whose parts are evaluated already.
+ghost use Rattle.std.specs.Prelude.{◌≡◌, [], ◌∷◌, length, map, option_copied, option_map, ℕ, pos, IfOk, IfSome, MatchResult};
+ghost use Rattle.lg_elem.specs.declared.dtype.DType.TheVariants.{Int64};
+ghost use Rattle.lg_elem.specs.declared.kinds.Unary.TheVariants.{Neg};
+ghost use Rattle.lg_meaning.specs.Faults.{from_both, from_part};
+ghost use Rattle.lg_meaning.specs.Weak.{number_of};
+ghost use Rattle.lg_shape.specs.Shapes.{size_of};
+ghost use Rattle.lg_session.specs.Lists.{gathered};
+ghost use Rattle.lg_meaning.specs.Static.{arith_static, compare_static, neg_static, unary_static, binary_static, choose_static, full_static, shaped, arange_static, integers, integer_of, weak_of as weak_part, type_or, array_static, list_type, operation as operation_of};
+ghost use Rattle.lg_meaning.specs.Value.{binary_value, compare_value, unary_value, choose_value, filled, counted as counted_from, listed as listed_as, only};
+ghost use Rattle.lg_session.specs.Operations.{weak_answer, weak_of, IsRanged};
+ghost use Rattle.lg_session.specs.Roots.{contents};
+ghost use Rattle.lg_session.specs.Values.{value_static, value_in, IsUsable, IsComputed, IsWeakAnswer};
+
+use crate::lists::Members;
+use crate::operations::{
+    EvaluateEnd, Weak, binary, choose, compare, counted, full, listed, ones, unary, weak_arith,
+    weak_compare, weak_negative, zeros,
+};
+use crate::session::Session;
+use crate::value::Value;
+use lg_elem::{Binary, Compare, DType, Unary};
+use lg_meaning::FaultKind;
+use lg_tree::Arith;
+use std::alloc::Global;
+
+/// `-a`
+pub(crate) fn negative(alloc: Global, session: &Session, a: &Value) -> Result<Value, EvaluateEnd>
+    requires { IsUsable (contents session.now.roots) a.now }
+    ensures usable { IfOk result (IsUsable (contents session.now.roots)) }
+    ensures computed { IsComputed (neg_static (value_static a.now))
+        (unary_value Neg (value_in (contents session.now.roots) a.now)) result }
+{
+    match a {
+        Value::Weak(w) => Ok(Value::Weak(known(weak_negative(*w))?)),
+        _ => one_operand(alloc, session, Unary::Neg, a),
+    }
+}
+
+/// `~a` and `abs(a)`
+pub(crate) fn one_operand(
+    alloc: Global,
+    session: &Session,
+    op: Unary,
+    a: &Value,
+) -> Result<Value, EvaluateEnd>
+    requires { IsUsable (contents session.now.roots) a.now }
+    ensures usable { IfOk result (IsUsable (contents session.now.roots)) }
+    ensures computed { IsComputed (unary_static op (value_static a.now))
+        (unary_value op (value_in (contents session.now.roots) a.now)) result }
+{
+    Ok(Value::Fresh(unary(alloc, session.pieces, op, &session.operand(a))?))
+}
+
+/// `a + b`, and so for each operation of two operands.
+pub(crate) fn arithmetic(
+    alloc: Global,
+    session: &Session,
+    op: Arith,
+    a: &Value,
+    b: &Value,
+) -> Result<Value, EvaluateEnd>
+    requires first { IsUsable (contents session.now.roots) a.now }
+    requires second { IsUsable (contents session.now.roots) b.now }
+    ensures usable { IfOk result (IsUsable (contents session.now.roots)) }
+    ensures computed { IsComputed (arith_static op (value_static a.now) (value_static b.now))
+        (binary_value (operation_of op) (value_in (contents session.now.roots) a.now)
+        (value_in (contents session.now.roots) b.now)) result }
+{
+    if let (Value::Weak(v), Value::Weak(w)) = (a, b) {
+        if let Some(answer) = weak_arith(op, *v, *w) {
+            return Ok(Value::Weak(known(answer)?));
+        }
+    }
+    two_operands(alloc, session, operation(op), a, b)
+}
+
+/// `minimum(a, b)` and `maximum(a, b)`
+pub(crate) fn two_operands(
+    alloc: Global,
+    session: &Session,
+    op: Binary,
+    a: &Value,
+    b: &Value,
+) -> Result<Value, EvaluateEnd>
+    requires first { IsUsable (contents session.now.roots) a.now }
+    requires second { IsUsable (contents session.now.roots) b.now }
+    ensures usable { IfOk result (IsUsable (contents session.now.roots)) }
+    ensures computed { IsComputed (binary_static op (value_static a.now) (value_static b.now))
+        (binary_value op (value_in (contents session.now.roots) a.now)
+        (value_in (contents session.now.roots) b.now)) result }
+{
+    let (a, b) = (session.operand(a), session.operand(b));
+    Ok(Value::Fresh(binary(alloc, session.pieces, op, &a, &b)?))
+}
+
+/// `a < b`, and so for each comparison.
+pub(crate) fn comparison(
+    alloc: Global,
+    session: &Session,
+    op: Compare,
+    a: &Value,
+    b: &Value,
+) -> Result<Value, EvaluateEnd>
+    requires first { IsUsable (contents session.now.roots) a.now }
+    requires second { IsUsable (contents session.now.roots) b.now }
+    ensures usable { IfOk result (IsUsable (contents session.now.roots)) }
+    ensures computed { IsComputed (compare_static op (value_static a.now) (value_static b.now))
+        (compare_value op (value_in (contents session.now.roots) a.now)
+        (value_in (contents session.now.roots) b.now)) result }
+{
+    if let (Value::Weak(v), Value::Weak(w)) = (a, b) {
+        return Ok(Value::Weak(weak_compare(op, *v, *w)));
+    }
+    let (a, b) = (session.operand(a), session.operand(b));
+    Ok(Value::Fresh(compare(alloc, session.pieces, op, &a, &b)?))
+}
+
+/// `where(condition, a, b)`
+pub(crate) fn choice(
+    alloc: Global,
+    session: &Session,
+    condition: &Value,
+    a: &Value,
+    b: &Value,
+) -> Result<Value, EvaluateEnd>
+    requires condition { IsUsable (contents session.now.roots) condition.now }
+    requires first { IsUsable (contents session.now.roots) a.now }
+    requires second { IsUsable (contents session.now.roots) b.now }
+    ensures usable { IfOk result (IsUsable (contents session.now.roots)) }
+    ensures computed { IsComputed
+        (choose_static (value_static condition.now) (value_static a.now) (value_static b.now))
+        (choose_value (value_in (contents session.now.roots) condition.now)
+        (value_in (contents session.now.roots) a.now)
+        (value_in (contents session.now.roots) b.now)) result }
+{
+    let condition = session.operand(condition);
+    let (a, b) = (session.operand(a), session.operand(b));
+    Ok(Value::Fresh(choose(alloc, session.pieces, &condition, &a, &b)?))
+}
+
+/// `full(extent, x, type)`
+pub(crate) fn full_array(
+    alloc: Global,
+    session: &Session,
+    extent: &Value,
+    x: &Value,
+    dtype: Option<DType>,
+) -> Result<Value, EvaluateEnd>
+    requires extent { IsUsable (contents session.now.roots) extent.now }
+    requires number { IsUsable (contents session.now.roots) x.now }
+    ensures usable { IfOk result (IsUsable (contents session.now.roots)) }
+    ensures computed { IsComputed
+        (from_both (integers (value_static extent.now ∷ [])) (weak_part (value_static x.now))
+        (λ xs w. full_static xs w dtype))
+        (filled (only (value_in (contents session.now.roots) x.now))) result }
+{
+    let extent = integer(extent)?;
+    let x = weak(x)?;
+    Ok(Value::Fresh(full(alloc, session.pieces, &[extent], x, dtype)?))
+}
+
+/// `zeros(extent, type)`
+pub(crate) fn array_of_zeros(
+    alloc: Global,
+    session: &Session,
+    extent: &Value,
+    dtype: Option<DType>,
+) -> Result<Value, EvaluateEnd>
+    requires { IsUsable (contents session.now.roots) extent.now }
+    ensures usable { IfOk result (IsUsable (contents session.now.roots)) }
+    ensures computed { IsComputed
+        (from_part (integers (value_static extent.now ∷ [])) (shaped (type_or dtype Int64)))
+        (filled (pos 0)) result }
+{
+    let extent = integer(extent)?;
+    Ok(Value::Fresh(zeros(alloc, session.pieces, &[extent], dtype)?))
+}
+
+/// `ones(extent, type)`
+pub(crate) fn array_of_ones(
+    alloc: Global,
+    session: &Session,
+    extent: &Value,
+    dtype: Option<DType>,
+) -> Result<Value, EvaluateEnd>
+    requires { IsUsable (contents session.now.roots) extent.now }
+    ensures usable { IfOk result (IsUsable (contents session.now.roots)) }
+    ensures computed { IsComputed
+        (from_part (integers (value_static extent.now ∷ [])) (shaped (type_or dtype Int64)))
+        (filled (pos 1)) result }
+{
+    let extent = integer(extent)?;
+    Ok(Value::Fresh(ones(alloc, session.pieces, &[extent], dtype)?))
+}
+
+/// `arange(from, to, type)`
+pub(crate) fn counted_array(
+    alloc: Global,
+    session: &Session,
+    from: &Value,
+    to: &Value,
+    dtype: Option<DType>,
+) -> Result<Value, EvaluateEnd>
+    requires first { IsUsable (contents session.now.roots) from.now }
+    requires second { IsUsable (contents session.now.roots) to.now }
+    ensures usable { IfOk result (IsUsable (contents session.now.roots)) }
+    ensures computed { IsComputed
+        (from_both (integer_of (value_static from.now)) (integer_of (value_static to.now))
+        (λ x y. arange_static x y (type_or dtype Int64)))
+        (counted_from (only (value_in (contents session.now.roots) from.now))) result }
+{
+    let from = integer(from)?;
+    let to = integer(to)?;
+    let dtype = dtype.unwrap_or(DType::Int64);
+    Ok(Value::Fresh(counted(alloc, session.pieces, from, to, dtype)?))
+}
+
+/// `array(list, type)`, of what stands in the list and its shape, if its lists are alike.
+pub(crate) fn listed_array(
+    alloc: Global,
+    session: &Session,
+    members: &Members,
+    shape: Option<Vec<u64>>,
+    dtype: Option<DType>,
+) -> Result<Value, EvaluateEnd>
+    requires { IfSome shape (λ extents. length members.now.weaks.items ≡ size_of extents.items) }
+    ensures usable { IfOk result (IsUsable (contents session.now.roots)) }
+    ensures computed { IsComputed (from_part (gathered members.now) (λ ws.
+        array_static (option_map (λ extents. extents.items) shape) ws
+        (type_or dtype (list_type ws))))
+        (listed_as (map (λ w. number_of (weak_of w)) members.now.weaks.items)) result }
+{
+    if members.has_array {
+        return Err(EvaluateEnd::Fault(FaultKind::TypeKind));
+    }
+    Ok(Value::Fresh(listed(alloc, session.pieces, &members.weaks, lent(&shape), dtype)?))
+}
+
+/// A value as a number that is an extent or a bound: no truth value, and no array.
+fn integer(value: &Value) -> Result<i128, EvaluateEnd>
+    ensures value { MatchResult result (λ x. value.now ≡ Value.Weak (Weak.Integer x))
+        (λ end. (end ≡ EvaluateEnd.Fault FaultKind.TypeKind)
+        × (integer_of (value_static value.now) ≡ Err FaultKind.TypeKind)) }
+{
+    match value {
+        Value::Weak(Weak::Integer(x)) => Ok(*x),
+        _ => Err(EvaluateEnd::Fault(FaultKind::TypeKind)),
+    }
+}
+
+/// A value as a weak number: no array.
+fn weak(value: &Value) -> Result<Weak, EvaluateEnd>
+    ensures value { MatchResult result (λ w. value.now ≡ Value.Weak w)
+        (λ end. (end ≡ EvaluateEnd.Fault FaultKind.TypeKind)
+        × (weak_part (value_static value.now) ≡ Err FaultKind.TypeKind)) }
+{
+    match value {
+        Value::Weak(w) => Ok(*w),
+        _ => Err(EvaluateEnd::Fault(FaultKind::TypeKind)),
+    }
+}
+
+// A weak number that follows from others, or its fault.
+fn known(answer: Result<Weak, FaultKind>) -> Result<Weak, EvaluateEnd>
+    ensures { IsWeakAnswer (weak_answer answer) result }
+{
+    match answer {
+        Ok(w) => Ok(w),
+        Err(kind) => Err(EvaluateEnd::Fault(kind)),
+    }
+}
+
+// The extents of a shape, if there is one.
+fn lent(shape: &Option<Vec<u64>>) -> Option<&[u64]>
+    ensures value { option_copied result ≡ option_map (λ extents. extents.items) shape.now }
+    ensures full { (n : ℕ) → IfSome shape.now (λ extents. n ≡ size_of extents.items)
+        → IfSome result (λ extents. n ≡ size_of extents.now) }
+{
+    match shape {
+        Some(extents) => Some(extents.as_slice()),
+        None => None,
+    }
+}
+
+// The operation on elements that an operator stands for.
+fn operation(op: Arith) -> Binary
+    ensures { result ≡ operation_of op }
+{
+    match op {
+        Arith::Add => Binary::Add,
+        Arith::Sub => Binary::Sub,
+        Arith::Mul => Binary::Mul,
+        Arith::FloorDiv => Binary::FloorDiv,
+        Arith::Rem => Binary::Rem,
+        Arith::Pow => Binary::Pow,
+        Arith::BitAnd => Binary::BitAnd,
+        Arith::BitOr => Binary::BitOr,
+        Arith::BitXor => Binary::BitXor,
+        Arith::Shl => Binary::Shl,
+        Arith::Shr => Binary::Shr,
+    }
+}
