@@ -1,0 +1,2 @@
+x = np.arange(300000)
+repeat: print(x.tolist())
