@@ -10,7 +10,7 @@ DONE = 0
 abbrev pub USAGE : ℕ
 USAGE = 2
 
--- the bytes spell no script
+-- the bytes spell no script, or one with a statement that is not built
 abbrev pub SYNTAX : ℕ
 SYNTAX = 3
 

@@ -1,8 +1,9 @@
 -- What a whole call does: from words and bytes to printed text and a status. This project's own.
-use Rattle.std.specs.Prelude.{◌≡◌, ℕ, List, [], ◌∷◌, map, Option, Some, String, string_bytes, codes}
+use Rattle.std.specs.Prelude.{◌≡◌, ◌⊎◌, ℕ, List, [], ◌∷◌, map, Option, None, Some, String, string_bytes, codes}
 use Rattle.lg_outside.specs.Outside.{AppendsPart}
 use Rattle.lg_tree.specs.Tree.{LineTree}
-use Rattle.lg_grammar.specs.Script.{Spells}
+use Rattle.lg_grammar.specs.Script.{Spells, IsFirstBad}
+use Rattle.lg_session.specs.Built.{first_unbuilt}
 use Rattle.lg_meaning.specs.declared.fault.FaultKind.{FaultKind}
 use Rattle.lg_meaning.specs.Run.{End, done, fault_at, run}
 use Rattle.legate.specs.Running.{Ends, PrintsFirst}
@@ -16,6 +17,22 @@ IsRunCommand words = map string_bytes words ≡ codes "run" ∷ []
 -- the bytes spell no script
 abbrev pub SpellsNone : List ℕ → Type 0
 SpellsNone bytes = (script : List LineTree) → Spells bytes script → ⊥
+
+-- the bytes spell this script and no other, and this is its first line with a statement that is not
+-- built
+pub record SpellsUnbuilt (bytes : List ℕ) (line : ℕ) : Type 0 where
+  pub script : List LineTree
+  pub spelled : Spells bytes script
+  pub only : (other : List LineTree) → Spells bytes other → other ≡ script
+  pub unbuilt : first_unbuilt script ≡ Some line
+
+-- the bytes are refused at this line: it is the first bad one, or the first one that is not built
+abbrev pub IsRefusedAt : List ℕ → ℕ → Type 0
+IsRefusedAt bytes line = (SpellsNone bytes × IsFirstBad bytes line) ⊎ SpellsUnbuilt bytes line
+
+-- the bytes spell no script of which each statement is built
+abbrev pub IsRefused : List ℕ → Type 0
+IsRefused bytes = (script : List LineTree) → Spells bytes script → first_unbuilt script ≡ None → ⊥
 
 -- the bytes spell this script and no other; it ends so, no byte is left, and its whole text was
 -- appended

@@ -34,7 +34,7 @@ pub const DONE: u8 = 0;
 /// The words are no command.
 pub const USAGE: u8 = 2;
 
-/// The bytes spell no script.
+/// The bytes spell no script, or one with a statement that is not evaluated yet.
 pub const SYNTAX: u8 = 3;
 
 /// A statement has a fault.

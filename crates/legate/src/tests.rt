@@ -1,7 +1,6 @@
 //! Whole calls over streams in memory, with what each must answer, print and log.
 mod scripts;
 mod statements;
-mod trees;
 
 use crate::messages::told;
 use crate::{Exit, legate};
@@ -361,7 +360,7 @@ fn prints(rt: &impl Abort, alloc: Global, script: Vec<u8>, text: &[u8]) -> Resul
     Ok(())
 }
 
-// As many statements as there may be, and more elements than fit in a few pages: a run that gives
+// Many statements, and more elements than fit in a few pages: a run that gives
 // up early is seen.
 #[test]
 fn long_scripts_and_large_arrays_run(rt: HostRuntime) -> Result<(), Fail> {

@@ -1,12 +1,13 @@
 ghost use Rattle.std.specs.Prelude.{◌≡◌, ◌≢◌, ◌≤◌, ◌<◌, ◌↔◌, ◌⊎◌, List, [], ◌∷◌, length, Some, None, IfSome, IsSome, IsTrue, Contains};
 ghost use Rattle.lg_outside.specs.Outside.{Rose, taken_count};
 ghost use Rattle.lg_tree.specs.Tree.{LineTree};
-ghost use Rattle.lg_grammar.specs.Script.{Spells, IsFirstBad};
+ghost use Rattle.lg_grammar.specs.Script.{Spells};
+ghost use Rattle.lg_session.specs.Built.{first_unbuilt};
 ghost use Rattle.lg_meaning.specs.Run.{done, fault_at, run};
 ghost use Rattle.lg_meaning.specs.declared.fault.FaultKind.{FaultKind};
 ghost use Rattle.legate.specs.Statuses as statuses;
 ghost use Rattle.legate.specs.Messages.{Logs, message_of};
-ghost use Rattle.legate.specs.Top.{IsRunCommand, SpellsNone, Finishes, StopsWithin, StopsBetween, HasFault, EndsAs};
+ghost use Rattle.legate.specs.Top.{IsRunCommand, IsRefusedAt, IsRefused, Finishes, StopsWithin, StopsBetween, HasFault, EndsAs};
 
 use crate::exit::{DONE, Exit, FAULT, NO_MEMORY, READ_FAULT, SYNTAX, TOO_LONG, USAGE, WRITE_FAULT};
 use crate::loading::{LoadStop, MAX_SCRIPT_BYTES, load};
@@ -52,27 +53,28 @@ pub fn legate<S: Source, K: Sink, L: Sink>(
     ensures write_fault { result.status ≡ statuses.WRITE_FAULT
         → Rose (K.faults out.old) (K.faults out.new) }
 
-    // Syntax: the bytes spell no script, and the line is the first bad one.
+    // Syntax: the bytes spell no script, and the line is the first bad one; or they spell one, and
+    // the line is its first one with a statement that is not built yet.
     ensures syntax { result.status ≡ statuses.SYNTAX → IfSome (S.left source.old) (λ bytes.
-        SpellsNone bytes × IsFirstBad bytes result.line) }
+        IsRefusedAt bytes result.line) }
 
     // Wherever memory was found, syntax is the answer exactly where none of the three before it is
-    // and the bytes spell no script, and a fault is the answer exactly where none before it is, the
-    // script ends with one and the output did not fail.
+    // and the bytes spell no script that is built, and a fault is the answer exactly where none
+    // before it is, the script ends with one and the output did not fail.
     ensures syntax_exactly { IfSome (S.left source.old) (λ bytes. result.status ≢ statuses.NO_MEMORY
         → ((result.status ≡ statuses.SYNTAX) ↔ ((result.status ≢ statuses.USAGE)
         × (result.status ≢ statuses.READ_FAULT) × (result.status ≢ statuses.TOO_LONG)
-        × SpellsNone bytes))) }
+        × IsRefused bytes))) }
     ensures fault_exactly { IfSome (S.left source.old) (λ bytes. result.status ≢ statuses.NO_MEMORY
         → ((result.status ≡ statuses.FAULT) ↔ ((result.status ≢ statuses.USAGE)
         × (result.status ≢ statuses.READ_FAULT) × (result.status ≢ statuses.TOO_LONG)
         × (result.status ≢ statuses.SYNTAX) × (result.status ≢ statuses.WRITE_FAULT)
         × HasFault bytes))) }
 
-    // A script of the right length is run to its end, or to its first fault, unless a stream fails
-    // or memory lacks.
+    // A script of the right length that is built is run to its end, or to its first fault, unless a
+    // stream fails or memory lacks.
     ensures completes { IfSome (S.left source.old) (λ bytes. (script : List LineTree)
-        → Spells bytes script → IsRunCommand words.now → length bytes ≤ MAX_SCRIPT_BYTES
+        → Spells bytes script → first_unbuilt script ≡ None → IsRunCommand words.now → length bytes ≤ MAX_SCRIPT_BYTES
         → (¬ Rose (S.faults source.old) (S.faults source.new))
         → (¬ Rose (K.faults out.old) (K.faults out.new))
         → result.status ≢ statuses.NO_MEMORY → EndsAs result (run script).end) }

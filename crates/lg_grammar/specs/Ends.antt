@@ -2,8 +2,8 @@
 use Rattle.std.specs.Prelude.{ℕ, List, ⊤}
 use Rattle.lg_tree.specs.Tree.{LineTree}
 use Rattle.lg_grammar.specs.Script.{Spells, IsFirstBad}
-use Rattle.lg_grammar.specs.declared.scripts.ScriptEnd.{ScriptEnd}
-use Rattle.lg_grammar.specs.declared.scripts.ScriptEnd.TheVariants.{Syntax, NoMemory}
+use Rattle.lg_grammar.specs.declared.ends.ScriptEnd.{ScriptEnd}
+use Rattle.lg_grammar.specs.declared.ends.ScriptEnd.TheVariants.{Syntax, NoMemory}
 
 -- scripts as trees
 abbrev pub ScriptTree : Type 0

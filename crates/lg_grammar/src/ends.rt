@@ -1,22 +1,19 @@
-ghost use Rattle.std.specs.Prelude.{◌≡◌};
+//! Why bytes give no script.
 
-use std::alloc::AllocError;
+use thiserror::Error;
 
-/// Why tokens give no tree.
-#[derive(Clone, Copy, Debug)]
-pub enum ParseEnd {
-    /// They spell none, or a tree that is too high.
-    Syntax,
-    /// There is no memory for it.
+/// Why bytes give no script.
+#[derive(Clone, Copy, Debug, PartialEq, Eq, Error)]
+pub enum ScriptEnd {
+    /// A line is bad: it is neither skipped nor a statement that may stand there, or it begins a
+    /// loop in which no statement follows.
+    #[error("line {line}: syntax")]
+    Syntax {
+        /// The number of the first such line, counted from 1.
+        line: u64,
+    },
+
+    /// There is no memory for the script.
+    #[error("no memory")]
     NoMemory,
-}
-
-impl From<AllocError> for ParseEnd {
-    ghost use Rattle.lg_grammar.specs.declared.ends.ParseEnd.TheVariants.{NoMemory};
-
-    ghost from_gives = { λ _ e. e ≡ NoMemory };
-
-    fn from(_error: AllocError) -> Self {
-        ParseEnd::NoMemory
-    }
 }

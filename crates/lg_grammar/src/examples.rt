@@ -1,66 +1,62 @@
-//! Worked examples of the definitions. Each clause is computed by the check, so a definition that
-//! says something else is refused. The values are counted by hand.
-ghost use Rattle.std.specs.Prelude.{◌≡◌, codes, List, [], ◌∷◌, Some, None};
-ghost use Rattle.lg_elem.specs.declared.dtype.DType.TheVariants.{Bool, UInt64};
-ghost use Rattle.lg_lex.specs.declared.tokens.TokenKind.TheVariants.{Star, Minus, RightShift, Ampersand, Circumflex, Bar, DoubleStar, LessEqual, LeftParenthesis, RightParenthesis, LeftBracket, RightBracket};
-ghost use Rattle.lg_elem.specs.declared.kinds.Compare.TheVariants.{Le};
-ghost use Rattle.lg_tree.specs.declared.kinds.Arith.TheVariants.{Sub, Mul, Shr, BitAnd, BitXor, BitOr};
-ghost use Rattle.lg_grammar.specs.declared.keywords.Keyword.TheVariants.{True, ElementType, Full, Unused};
-ghost use Rattle.lg_grammar.specs.Brackets.{MAX_NESTING, opened, closed};
-ghost use Rattle.lg_grammar.specs.Keywords.{keyword_of};
-ghost use Rattle.lg_grammar.specs.Operators.{operation, comparison, WIDEST};
-ghost use Rattle.lg_grammar.specs.Script.{MAX_STATEMENTS, IsIndented, lines_of};
-ghost use Rattle.lg_grammar.specs.Statements.{MAX_HEIGHT};
-ghost use Rattle.lg_grammar.specs.Terminal.{sign, number};
+//! Worked examples of the definitions. The values are counted by hand. Where bytes are given by
+//! number, 9 is a tab, 10 ends a line, 13 is a carriage return, 32 a space, and 97 and 98 letters.
 
-/// Where lines are cut, and how a depth is indented.
+ghost use Rattle.std.specs.Prelude.{◌≡◌, ℕ, codes, List, [], ◌∷◌, ◌++◌};
+ghost use Rattle.lg_tree.specs.Heads.{HeadTree, whole};
+ghost use Rattle.lg_tree.specs.Tree.{no_lines, more_lines};
+ghost use Rattle.lg_grammar.specs.Script.{MAX_DEPTH, lines_of, IsSkipped, IsIndented, HoldsLine, Spells, IsFirstBad};
+ghost use Rattle.lg_grammar.specs.Examples.{loads, loop_i, line, spaces};
+
+/// Where lines are cut. A byte 13 that is the last of a line is dropped.
 pub fn lines_by_example()
     ensures cut { lines_of (codes "a\n\nb\n") ≡ codes "a" ∷ [] ∷ codes "b" ∷ [] ∷ [] }
-    ensures empty { lines_of [] ≡ [] ∷ [] }
-    ensures first_column { IsIndented 0 (codes "a = b") }
-    ensures one_deep { IsIndented 1 (codes "    a = b") }
-    ensures two_deep { IsIndented 2 (codes "        a = b") }
+    ensures nothing { lines_of [] ≡ [] ∷ [] }
+    ensures returns { lines_of (97 ∷ 13 ∷ 10 ∷ 98 ∷ 13 ∷ []) ≡ codes "a" ∷ codes "b" ∷ [] }
+    ensures inside { lines_of (97 ∷ 13 ∷ 98 ∷ 10 ∷ []) ≡ (97 ∷ 13 ∷ 98 ∷ []) ∷ [] ∷ [] }
+    ensures two { lines_of (97 ∷ 13 ∷ 13 ∷ 10 ∷ []) ≡ (97 ∷ 13 ∷ []) ∷ [] ∷ [] }
 {}
 
-/// How many statements there may be, how high a tree may be, and how deep brackets may nest.
-pub fn limits_by_example()
-    ensures statements { MAX_STATEMENTS ≡ 1000 }
-    ensures height { MAX_HEIGHT ≡ 200 }
-    ensures nesting { MAX_NESTING ≡ 64 }
+/// Which lines are skipped.
+pub fn skipped_by_example()
+    ensures nothing { IsSkipped [] }
+    ensures blanks { IsSkipped (32 ∷ 9 ∷ 32 ∷ []) }
+    ensures comment { IsSkipped (codes "# x = load(f)") }
+    ensures indented { IsSkipped (codes "     # a") }
+    ensures word { IsSkipped (codes "x # a") → ⊥ }
+    ensures fault { IsSkipped (codes "?") → ⊥ }
 {}
 
-/// Which operators bind more tightly than others.
-pub fn operators_by_example()
-    ensures product { operation Star ≡ Some (1, Mul) }
-    ensures difference { operation Minus ≡ Some (2, Sub) }
-    ensures shift { operation RightShift ≡ Some (3, Shr) }
-    ensures and { operation Ampersand ≡ Some (4, BitAnd) }
-    ensures exclusive_or { operation Circumflex ≡ Some (5, BitXor) }
-    ensures or { operation Bar ≡ Some (6, BitOr) }
-    ensures widest { WIDEST ≡ 6 }
-    ensures power { operation DoubleStar ≡ None }
-    ensures at_most { comparison LessEqual ≡ Some Le }
-    ensures no_comparison { comparison Minus ≡ None }
+/// In how many blocks a line stands.
+pub fn depths_by_example()
+    ensures none { IsIndented 0 (codes "x") }
+    ensures four { IsIndented 1 (codes "    x") }
+    ensures five { (depth : ℕ) → IsIndented depth (codes "     x") → ⊥ }
+    ensures tab { (depth : ℕ) → IsIndented depth (9 ∷ 97 ∷ []) → ⊥ }
+    ensures tab_behind { (depth : ℕ) → IsIndented depth (spaces 4 ++ 9 ∷ 97 ∷ []) → ⊥ }
+    ensures limit { MAX_DEPTH ≡ 16 }
+    ensures deepest { HoldsLine (spaces 64 ++ codes "x = load(f)") 16 (whole loads) }
+    ensures too_deep { (depth : ℕ) (head : HeadTree)
+        → HoldsLine (spaces 68 ++ codes "x = load(f)") depth head → ⊥ }
 {}
 
-/// How many brackets are opened and closed.
-pub fn brackets_by_example()
-    ensures opened { opened (sign LeftParenthesis ∷ sign LeftBracket ∷ number 1
-        ∷ sign RightBracket ∷ []) ≡ 2 }
-    ensures closed { closed (sign LeftParenthesis ∷ sign RightParenthesis ∷ number 1
-        ∷ sign RightBracket ∷ []) ≡ 2 }
+/// Which scripts bytes spell.
+pub fn scripts_by_example()
+    ensures nothing { Spells [] [] }
+    ensures skipped { Spells (codes "# a\n \n") [] }
+    ensures one { Spells (codes "x = load(f)") (line 1 loads ∷ []) }
+    ensures returns { Spells (codes "x = load(f)" ++ 13 ∷ 10 ∷ 13 ∷ 10 ∷ codes "x = load(f)\n")
+        (line 1 loads ∷ line 3 loads ∷ []) }
+    ensures block { Spells
+        (codes "for i in range(3):\n    x = load(f)\n# a\n    x = load(f)\nx = load(f)\n")
+        (line 1 (loop_i (more_lines 2 loads (more_lines 4 loads no_lines))) ∷ line 5 loads ∷ []) }
 {}
 
-/// Which words are reserved, and what they are.
-#[tactic(auto, unfolding(crate::specs::Keywords::keyword_of))]
-pub fn words_by_example()
-    ensures name { keyword_of (codes "fulls") ≡ None }
-    ensures method { keyword_of (codes "copy") ≡ None }
-    ensures call { keyword_of (codes "full") ≡ Some Full }
-    ensures truth { keyword_of (codes "True") ≡ Some True }
-    ensures first_type { keyword_of (codes "bool") ≡ Some (ElementType Bool) }
-    ensures last_type { keyword_of (codes "uint64") ≡ Some (ElementType UInt64) }
-    ensures python { keyword_of (codes "lambda") ≡ Some Unused }
-    ensures axis { keyword_of (codes "axis") ≡ Some Unused }
-    ensures later { keyword_of (codes "argmax") ≡ Some Unused }
+/// Which line is the first bad one.
+pub fn first_bad_by_example()
+    ensures empty_block { IsFirstBad (codes "for i in range(3):\nx = load(f)\n") 2 }
+    ensures open_end { IsFirstBad (codes "x = load(f)\nfor i in range(3):\n    # a\n") 2 }
+    ensures indented { IsFirstBad (codes "    x = load(f)\nx = load(f)\n") 1 }
+    ensures no_block { IsFirstBad (codes "x = load(f)\n\n    x = load(f)\n") 3 }
+    ensures two_deeper { IsFirstBad (codes "for i in range(3):\n        x = load(f)\n") 2 }
+    ensures fault { IsFirstBad (codes "x = load(f)\n?\n    x = load(f)\n") 2 }
 {}

@@ -1,27 +1,14 @@
-//! The reader of scripts: the grammar.
+//! From the bytes of a script to its statements.
 #![tactic(auto)]
 
-mod brackets;
-mod calls;
-mod cursor;
 mod ends;
-mod examples;
-mod grammar;
-mod keywords;
+pub mod examples;
 pub mod laws;
-mod lists;
-mod nodes;
-mod operands;
-mod operators;
-mod parsed;
-mod rules;
+mod lines;
 mod scripts;
-mod statements;
-mod terminals;
-mod types;
 
-pub use examples::{
-    brackets_by_example, limits_by_example, lines_by_example, operators_by_example,
-    words_by_example,
-};
-pub use scripts::{ScriptEnd, read_script};
+pub use ends::ScriptEnd;
+pub use scripts::read_script;
+
+#[cfg(test)]
+mod tests;

@@ -1,40 +1,23 @@
 //! From the bytes of a script to its statements.
 
-ghost use Rattle.std.specs.Prelude.{◌≡◌, ◌+◌, ◌<◌, ◌≤◌, ◌^◌, ◌∷◌, not, ◌==◌, ℕ, List, length, slice_range, sum_by, IfOk, IfErr, OnOk};
-ghost use Rattle.std.specs.Bool.{OnTrue, OnFalse};
+ghost use Rattle.std.specs.Prelude.{◌≡◌, ◌+◌, ◌<◌, ◌≤◌, ◌^◌, ◌∷◌, not, ◌==◌, ℕ, None, length, slice_range, sum_by, IfOk, IfErr, OnOk};
 ghost use Rattle.std.specs.List.{prefix_len};
-ghost use Rattle.lg_grammar.specs.Script.{IsIndented, Spells};
-ghost use Rattle.lg_tree.specs.Tree.{line_nodes};
+ghost use Rattle.lg_lex.specs.Bytes.{without_return};
+ghost use Rattle.lg_tree.specs.Measures.{line_nodes};
+ghost use Rattle.lg_tree.specs.Tree.{line_trees};
 ghost use Rattle.lg_tree.specs.View.{script_of};
-ghost use Rattle.lg_grammar.specs.Lines.{lines_view, lines_from, HoldsLine, EndsLine, AddsLine, EndsAdding};
+ghost use Rattle.lg_blocks.specs.Reader.{rows_read};
+ghost use Rattle.lg_blocks.specs.Rows.{rows_of, IsFull, Follows};
+ghost use Rattle.lg_grammar.specs.Script.{Spells};
+ghost use Rattle.lg_grammar.specs.Lines.{lines_from, AddsLine, EndsAdding, EndsBlocks};
 ghost use Rattle.lg_grammar.specs.Ends.{ScriptTree, SpellsNone, NamesFirstBad};
 
-use crate::ends::ParseEnd;
-use crate::statements::statement;
-use crate::terminals::as_terminals;
-use lg_lex::{LexEnd, is_blank, lex_line};
-use lg_tree::{Line, Script, Statement};
-use sqlite_items::Items;
+use crate::ends::ScriptEnd;
+use crate::lines::read_line;
+use lg_blocks::{FinishEnd, PushEnd, Reader};
+use lg_lex::without_return;
+use lg_tree::Script;
 use std::alloc::Global;
-use thiserror::Error;
-
-/// The greatest number of statements of a script.
-const STATEMENT_LIMIT: usize = 1_000;
-
-/// Why bytes give no script.
-#[derive(Clone, Copy, Debug, PartialEq, Eq, Error)]
-pub enum ScriptEnd {
-    /// A line is neither skipped nor a statement, or comes after as many statements as there may
-    /// be.
-    #[error("line {line}: syntax")]
-    Syntax {
-        /// The number of the first such line, counted from 1.
-        line: u64,
-    },
-    /// There is no memory for the script.
-    #[error("no memory")]
-    NoMemory,
-}
 
 /// The script that the bytes spell. Each line is skipped or holds one statement.
 ///
@@ -52,16 +35,17 @@ pub fn read_script(alloc: Global, bytes: &[u8]) -> Result<Script, ScriptEnd>
     ensures none { IfErr result (SpellsNone bytes.now) }
     ensures first_bad { IfErr result (NamesFirstBad bytes.now) }
 {
-    let mut lines = Items::new(alloc);
+    let mut reader = Reader::new(alloc);
     let mut number = 0;
     let mut start = 0;
     while start <= bytes.len() {
         number += 1;
         let end = line_end(bytes, start);
-        add_line(alloc, &mut lines, number, &bytes[start..end])?;
+        let line = without_return(&bytes[start..end]);
+        add_line(alloc, &mut reader, number, line)?;
         start = end + 1;
     }
-    Ok(Script { lines })
+    Ok(blocks(reader)?)
 }
 
 /// The place where the line ends that begins at `start`.
@@ -70,7 +54,7 @@ fn line_end(bytes: &[u8], start: usize) -> usize
     ensures after { start ≤ result }
     ensures within { result ≤ length bytes.now }
     ensures cut { lines_from bytes.now start
-        ≡ slice_range bytes.now start result ∷ lines_from bytes.now (result + 1) }
+        ≡ without_return (slice_range bytes.now start result) ∷ lines_from bytes.now (result + 1) }
 {
     start + line_length(&bytes[start..])
 }
@@ -83,61 +67,34 @@ fn line_length(rest: &[u8]) -> usize
     rest.iter().take_while(|b| **b != b'\n').count()
 }
 
-/// Puts the statement of a line behind the others, unless the line is skipped.
-fn add_line(
-    alloc: Global,
-    lines: &mut Items<Line>,
-    number: u64,
-    line: &[u8],
-) -> Result<(), ScriptEnd>
+/// Reads the line with this number behind those before it.
+fn add_line(alloc: Global, reader: &mut Reader, number: u64, line: &[u8]) -> Result<(), ScriptEnd>
     requires { length line.now < 2 ^ 32 }
-    ensures ok { OnOk result (AddsLine number line.now (lines_view lines.old)
-        (lines_view lines.new)) }
-    ensures end { IfErr result (EndsAdding number line.now (lines_view lines.old)) }
+    ensures ok { OnOk result (AddsLine number line.now (rows_read reader.old)
+        (rows_read reader.new)) }
+    ensures end { IfErr result (EndsAdding number line.now (rows_read reader.old)) }
 {
-    let Some(statement) = read_line(alloc, number, line)? else {
+    let Some((depth, head)) = read_line(alloc, number, line)? else {
         return Ok(());
     };
-    if lines.len() >= STATEMENT_LIMIT {
-        return Err(ScriptEnd::Syntax { line: number });
-    }
-    if lines.push(Line { number, statement }).is_err() {
-        return Err(ScriptEnd::NoMemory);
-    }
-    Ok(())
-}
-
-/// The statement of a line, or `None` where the line is skipped.
-fn read_line(alloc: Global, number: u64, line: &[u8]) -> Result<Option<Statement>, ScriptEnd>
-    requires { length line.now < 2 ^ 32 }
-    ensures ok { IfOk result (HoldsLine line.now) }
-    ensures end { IfErr result (EndsLine number line.now) }
-{
-    let tokens = match lex_line(alloc, line) {
-        Ok(tokens) => tokens,
-        Err(LexEnd::Fault { .. }) => return Err(ScriptEnd::Syntax { line: number }),
-        Err(LexEnd::NoMemory) => return Err(ScriptEnd::NoMemory),
-    };
-    if tokens.is_empty() {
-        return Ok(None);
-    }
-    if starts_blank(line) {
-        return Err(ScriptEnd::Syntax { line: number });
-    }
-    let Ok(terminals) = as_terminals(alloc, line, &tokens) else {
-        return Err(ScriptEnd::NoMemory);
-    };
-    match statement(alloc, &terminals) {
-        Ok(statement) => Ok(Some(statement)),
-        Err(ParseEnd::Syntax) => Err(ScriptEnd::Syntax { line: number }),
-        Err(ParseEnd::NoMemory) => Err(ScriptEnd::NoMemory),
+    match reader.push(number, depth, head) {
+        Ok(()) => Ok(()),
+        Err(PushEnd::Place) => Err(ScriptEnd::Syntax { line: number }),
+        Err(PushEnd::NoMemory) => Err(ScriptEnd::NoMemory),
     }
 }
 
-/// Whether a blank stands in front.
-fn starts_blank(line: &[u8]) -> bool
-    ensures blank { OnTrue result (IsIndented 0 line.now → ⊥) }
-    ensures solid { OnFalse result (IsIndented 0 line.now) }
+/// The script whose lines were all read.
+fn blocks(reader: Reader) -> Result<Script, ScriptEnd>
+    ensures rows { IfOk result (λ script.
+        rows_of 0 (line_trees (script_of script)) ≡ rows_read reader) }
+    ensures full { IfOk result (λ script. IsFull (line_trees (script_of script))) }
+    ensures end { IfErr result (EndsBlocks (rows_read reader)) }
+    ensures ordered { Follows None (rows_read reader) }
 {
-    !line.is_empty() && is_blank(line[0])
+    match reader.finish() {
+        Ok(lines) => Ok(Script { lines }),
+        Err(FinishEnd::Open { line }) => Err(ScriptEnd::Syntax { line }),
+        Err(FinishEnd::NoMemory) => Err(ScriptEnd::NoMemory),
+    }
 }

@@ -3,9 +3,9 @@
 use Rattle.std.proofs.Common.{◌≡◌, ℕ, ◌+◌, ◌<◌, ◌≤◌, Bool, true, false, cond, Option, None, Some, IfNone, inl, inr, zero, suc, List, [], ◌∷◌, ◌++◌, length, get_or, take, drop, decimal, refl, sym, ap, ◌∙◌, subst, arith, le_antisymm, zero-le, one-add, take-append-drop}
 use Rattle.std.specs.List.{prefix_len}
 use Rattle.std.proofs.lemmas.List.{length-take-le}
-use Rattle.std.proofs.lemmas.Bool.{or_left, or_right, both_ways, cases_lt}
+use Rattle.std.proofs.lemmas.Bool.{or_left, or_right, both_ways, cases_lt, eqb-true}
 use Rattle.std.proofs.lemmas.Bool.Decides.{nat_tests}
-use Rattle.lg_lex.specs.Bytes.{is_blank, is_letter, is_digit, is_word_byte}
+use Rattle.lg_lex.specs.Bytes.{is_blank, begins_comment, is_letter, is_digit, is_word_byte}
 use Rattle.lg_lex.specs.Lexical.{IsWord, IsNumber, HasText, BeginsApart, EndsWhole, Begins, BeginsNone, MAX_NUMBER}
 use Rattle.lg_lex.specs.Operators.{three_at, two_at, one_at}
 use Rattle.lg_lex.specs.declared.tokens.TokenKind.{TokenKind}
@@ -275,6 +275,26 @@ no_front apart p q r (by_one s e h) = none_some _ _ r h
 
 pub no_operator : (bytes : List ℕ) → prefix_len is_word_byte bytes ≡ 0 → three_at bytes ≡ None → two_at bytes ≡ None → one_at bytes ≡ None → BeginsNone bytes
 no_operator bytes run p q r k n h = no_front (run_apart bytes run) p q r (front_of bytes k n h.within h.text)
+
+-- no token begins with `#`
+hash_runs : (b : ℕ) (bs : List ℕ) → is_word_byte b ≡ false → prefix_len is_word_byte (b ∷ bs) ≡ 0
+hash_runs b bs h = ap (λ (t : Bool). cond t (1 + prefix_len is_word_byte bs) 0) h
+
+hash_three : (bs : List ℕ) → three_at (35 ∷ bs) ≡ None
+hash_three [] = refl
+hash_three (b ∷ []) = refl
+hash_three (b ∷ c ∷ bs) = refl
+
+hash_two : (bs : List ℕ) → two_at (35 ∷ bs) ≡ None
+hash_two [] = refl
+hash_two (b ∷ bs) = refl
+
+no_hash : (bs : List ℕ) → BeginsNone (35 ∷ bs)
+no_hash bs = no_operator (35 ∷ bs) (hash_runs 35 bs refl) (hash_three bs) (hash_two bs) refl
+
+pub comment_none : (bytes : List ℕ) → begins_comment (get_or bytes 0 0) ≡ true → BeginsNone bytes
+comment_none [] h = absurd (cc)
+comment_none (b ∷ bs) h = subst (λ (z : ℕ). BeginsNone (z ∷ bs)) (sym (eqb-true b 35 h)) (no_hash bs)
 
 -- a fact that holds anyway
 pub if_none : {X : Type 0} (o : Option X) (P : Type 0) → P → IfNone o P

@@ -4,12 +4,13 @@ use Rattle.std.specs.List.{All}
 use Rattle.std.proofs.lemmas.List.{drop_all}
 use Rattle.std.proofs.lemmas.List.Elements.{All-push}
 use Rattle.std.proofs.lemmas.Bool.{both_ways, cases_order, cases_eq}
-use Rattle.lg_lex.specs.Bytes.{is_blank}
+use Rattle.std.proofs.lemmas.Bool.Decides.{nat_tests}
+use Rattle.lg_lex.specs.Bytes.{is_blank, begins_comment}
 use Rattle.lg_lex.specs.Lexical.{Begins, BeginsNone}
-use Rattle.lg_lex.specs.Line.{IsBlank, Stands, Holds, Reads, ReadsNone, IsFault, token}
+use Rattle.lg_lex.specs.Line.{IsBlank, Stands, Holds, EndsAt, Reads, ReadsNone, IsFault, token}
 use Rattle.lg_lex.specs.declared.tokens.Token.{Token}
 use Rattle.lg_lex.specs.declared.tokens.TokenKind.{TokenKind}
-use Rattle.lg_lex.proofs.FrontLemmas.{count_once, begins_kind, begins_solid, begins_some}
+use Rattle.lg_lex.proofs.FrontLemmas.{count_once, begins_kind, begins_solid, begins_some, comment_none}
 
 no_blanks : (line : List ℕ) (place : ℕ) → IsBlank line place place
 no_blanks line place = record { forward = le_refl place; blank = λ i after before. absurd (omega arith) }
@@ -95,7 +96,7 @@ holds_once line from (s ∷ a) (t ∷ b) p q x y h g =
     let more = holds_once line s.end a b p q x y h.2 next in
     record { tokens = ap₂ (λ (z : Token) (zs : List Token). z ∷ zs) same more.tokens; place = more.place }
 
--- the end of a line and a fault are such places
+-- the end of a line, the beginning of a comment and a fault are such places
 beyond_solid : (line : List ℕ) → is_blank (get_or line (length line) 0) ≡ false
 beyond_solid [] = refl
 beyond_solid (b ∷ line) = beyond_solid line
@@ -107,23 +108,42 @@ nothing_begins bytes e k n h =
     let none : length bytes ≡ 0 = ap length e in
     omega arith
 
-stops_end : (line : List ℕ) → Stops line (length line)
-stops_end line = record { solid = beyond_solid line; none = nothing_begins (drop (length line) line) (drop_all (length line) line (le_refl (length line))) }
+stops_line : (line : List ℕ) → Stops line (length line)
+stops_line line = record { solid = beyond_solid line; none = nothing_begins (drop (length line) line) (drop_all (length line) line (le_refl (length line))) }
+
+hash_solid : (b : ℕ) → begins_comment b ≡ true → is_blank b ≡ false
+hash_solid b h = grind (arith, nat_tests)
+
+stops_comment : (line : List ℕ) (place : ℕ) → begins_comment (get_or line place 0) ≡ true → Stops line place
+stops_comment line place h = record {
+  solid = hash_solid (get_or line place 0) h;
+  none = comment_none (drop place line) (ap begins_comment (head_at line place) ∙ h);
+}
+
+stops_end : (line : List ℕ) (place : ℕ) → EndsAt line place → Stops line place
+stops_end line place h =
+    elim h [
+      | inl end ↦ subst (Stops line) (sym end) (stops_line line)
+      | inr comment ↦ stops_comment line place comment.1
+    ]
 
 stops_fault : (line : List ℕ) (place : ℕ) → IsFault line place → Stops line place
 stops_fault line place h = record { solid = h.solid; none = h.none }
 
 pub reads_once : (line : List ℕ) (a b : List Token) → Reads line a → Reads line b → a ≡ b
-reads_once line a b h g = (holds_once line 0 a b (length line) (length line) (stops_end line) (stops_end line) h g).tokens
+reads_once line a b h g = (holds_once line 0 a b h.end g.end (stops_end line h.end h.ends) (stops_end line g.end g.ends) h.holds g.holds).tokens
 
 pub fault_once : (line : List ℕ) (a b : ℕ) → IsFault line a → IsFault line b → a ≡ b
 fault_once line a b h g = (holds_once line 0 h.front g.front a b (stops_fault line a h) (stops_fault line b g) h.holds g.holds).place
 
 pub fault_none : (line : List ℕ) (place : ℕ) → IsFault line place → ReadsNone line
 fault_none line place h tokens g =
-    let same : place ≡ length line = (holds_once line 0 h.front tokens place (length line) (stops_fault line place h) (stops_end line) h.holds g).place in
+    let same : place ≡ g.end = (holds_once line 0 h.front tokens place g.end (stops_fault line place h) (stops_end line g.end g.ends) h.holds g.holds).place in
     let inside : place < length line = h.inside in
-    omega arith
+    elim g.ends [
+      | inl end ↦ absurd (omega arith)
+      | inr comment ↦ both_ways _ h.plain (ap (λ (i : ℕ). begins_comment (get_or line i 0)) same ∙ comment.1)
+    ]
 
 -- each is a token of the line, and there are no more than bytes
 pub stands_push : (line : List ℕ) (done new : List Token) (next : Token) → new ≡ done ++ next ∷ [] → Stands line next → All (Stands line) done → All (Stands line) new
@@ -136,3 +156,11 @@ holds_few line from (t ∷ tokens) to h =
     let blanks : from ≤ t.start = h.0.forward in
     let forward : t.start < t.end = h.1.forward in
     omega arith
+
+pub reads_few : (line : List ℕ) (tokens : List Token) → Reads line tokens → length tokens ≤ length line
+reads_few line tokens h =
+    let few : length tokens ≤ h.end = omega (arith, holds_few line 0 tokens h.end h.holds) in
+    elim h.ends [
+      | inl end ↦ omega arith
+      | inr comment ↦ let inside : h.end < length line = comment.0 in omega arith
+    ]

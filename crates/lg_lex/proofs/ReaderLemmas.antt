@@ -6,7 +6,7 @@ use Rattle.std.specs.Str.Parse.{AllDigits, digits_value}
 use Rattle.std.proofs.lemmas.Bool.{and_parts, and_from, and_cases, both_ways, not-true, ltb-true, ltb-false, leb-true, le-leb, eqb-true, eqb-false}
 use Rattle.std.proofs.lemmas.List.{length-take-le}
 use Rattle.std.proofs.lemmas.List.Sums.{prefix_len-le-length}
-use Rattle.lg_lex.specs.Bytes.{is_blank, is_letter, is_digit, is_word_byte}
+use Rattle.lg_lex.specs.Bytes.{is_blank, begins_comment, is_letter, is_digit, is_word_byte}
 use Rattle.lg_lex.specs.Lexical.{IsNumber, Begins, BeginsNone, MAX_NUMBER}
 use Rattle.lg_lex.specs.Line.{Stands, Holds, Reads, IsFault, token}
 use Rattle.lg_lex.specs.Operators.{three_at, two_at, one_at}
@@ -153,17 +153,23 @@ run (suc turns) line place done =
       | false ↦ read done
       | true ↦ elim (is_blank (get_or line place 0)) [
         | true ↦ run turns line (place + 1) done
-        | false ↦ after (run turns line) place done (next (drop place line))
+        | false ↦ elim (begins_comment (get_or line place 0)) [
+          | true ↦ read done
+          | false ↦ after (run turns line) place done (next (drop place line))
+        ]
       ]
     ]
 
-abbrev turn : ℕ → List ℕ → ℕ → List Token → Bool → Bool → Outcome
-turn turns line place done in_line blank =
+abbrev turn : ℕ → List ℕ → ℕ → List Token → Bool → Bool → Bool → Outcome
+turn turns line place done in_line blank comment =
     elim in_line [
       | false ↦ read done
       | true ↦ elim blank [
         | true ↦ run turns line (place + 1) done
-        | false ↦ after (run turns line) place done (next (drop place line))
+        | false ↦ elim comment [
+          | true ↦ read done
+          | false ↦ after (run turns line) place done (next (drop place line))
+        ]
       ]
     ]
 
@@ -179,22 +185,22 @@ stands_found line place n k inside h =
       begins = subst (λ (i : ℕ). Begins (drop place line) k i) (sym same) h;
     }
 
-says_after : (line : List ℕ) (go : ℕ → List Token → Outcome) (place : ℕ) (done : List Token) (f : Found) → ((to : ℕ) (tokens : List Token) → to ≤ length line → Holds line 0 tokens to → Says line (go to tokens)) → place < length line → is_blank (get_or line place 0) ≡ false → Holds line 0 done place → Tells (drop place line) f → Says line (after go place done f)
-says_after line go place done nothing more inside solid h t = record { front = done; holds = h; inside = inside; solid = solid; none = t }
-says_after line go place done (found k n) more inside solid h t =
+says_after : (line : List ℕ) (go : ℕ → List Token → Outcome) (place : ℕ) (done : List Token) (f : Found) → ((to : ℕ) (tokens : List Token) → to ≤ length line → Holds line 0 tokens to → Says line (go to tokens)) → place < length line → is_blank (get_or line place 0) ≡ false → begins_comment (get_or line place 0) ≡ false → Holds line 0 done place → Tells (drop place line) f → Says line (after go place done f)
+says_after line go place done nothing more inside solid plain h t = record { front = done; holds = h; inside = inside; solid = solid; plain = plain; none = t }
+says_after line go place done (found k n) more inside solid plain h t =
     let s = stands_found line place n k (omega arith) t in
     more (place + n) (done ++ token k place (place + n) ∷ []) s.within (holds_token line 0 done (token k place (place + n)) s h)
 
-says_turn : (turns : ℕ) (line : List ℕ) (place : ℕ) (done : List Token) (in_line blank : Bool) → ((to : ℕ) (tokens : List Token) → to ≤ length line → Holds line 0 tokens to → Says line (run turns line to tokens)) → ltb place (length line) ≡ in_line → is_blank (get_or line place 0) ≡ blank → place ≤ length line → Holds line 0 done place → Says line (turn turns line place done in_line blank)
-says_turn turns line place done false blank more e f within h =
-    let end : place ≡ length line = omega (arith, ltb-false place (length line) e) in
-    subst (λ (i : ℕ). Holds line 0 done i) end h
-says_turn turns line place done true true more e f within h = more (place + 1) done (omega (arith, ltb-true place (length line) e)) (holds_blank line 0 done place f h)
-says_turn turns line place done true false more e f within h = says_after line (run turns line) place done (next (drop place line)) more (ltb-true place (length line) e) f h (tells (drop place line))
+says_turn : (turns : ℕ) (line : List ℕ) (place : ℕ) (done : List Token) (in_line blank comment : Bool) → ((to : ℕ) (tokens : List Token) → to ≤ length line → Holds line 0 tokens to → Says line (run turns line to tokens)) → ltb place (length line) ≡ in_line → is_blank (get_or line place 0) ≡ blank → begins_comment (get_or line place 0) ≡ comment → place ≤ length line → Holds line 0 done place → Says line (turn turns line place done in_line blank comment)
+says_turn turns line place done false blank comment more e f g within h = record { end = place; holds = h; ends = inl (omega (arith, ltb-false place (length line) e)) }
+says_turn turns line place done true true comment more e f g within h = more (place + 1) done (omega (arith, ltb-true place (length line) e)) (holds_blank line 0 done place f h)
+says_turn turns line place done true false true more e f g within h = record { end = place; holds = h; ends = inr (ltb-true place (length line) e, g) }
+says_turn turns line place done true false false more e f g within h =
+    says_after line (run turns line) place done (next (drop place line)) more (ltb-true place (length line) e) f g h (tells (drop place line))
 
 says_run : (turns : ℕ) (line : List ℕ) (place : ℕ) (done : List Token) → place ≤ length line → Holds line 0 done place → Says line (run turns line place done)
 says_run zero line place done within h = tt
-says_run (suc turns) line place done within h = says_turn turns line place done _ _ (says_run turns line) refl refl within h
+says_run (suc turns) line place done within h = says_turn turns line place done _ _ _ (says_run turns line) refl refl refl within h
 
 -- what is read of a line, in at most 99 turns
 pub example : (line : List ℕ) → Says line (run 99 line 0 [])

@@ -1,7 +1,8 @@
 //! Worked examples of the tokens of a line. Each clause is computed by the check, so a definition
 //! that says something else is refused. The places are those of the text, counted from 0.
 
-ghost use Rattle.std.specs.Prelude.{[], ◌∷◌, codes};
+ghost use Rattle.std.specs.Prelude.{◌≡◌, [], ◌∷◌, codes};
+ghost use Rattle.lg_lex.specs.Bytes.{without_return};
 ghost use Rattle.lg_lex.specs.Line.{Reads, IsFault, token};
 ghost use Rattle.lg_lex.specs.declared.tokens.TokenKind.TheVariants.{Word, Number, DoubleStarEqual, DoubleSlashEqual, LeftShiftEqual, RightShiftEqual, Ellipsis, DoubleStar, DoubleSlash, LeftShift, RightShift, LessEqual, GreaterEqual, EqualEqual, NotEqual, PlusEqual, MinusEqual, StarEqual, PercentEqual, AmpersandEqual, BarEqual, CircumflexEqual, Plus, Minus, Star, Percent, At, Ampersand, Bar, Circumflex, Tilde, Less, Greater, Equal, LeftParenthesis, RightParenthesis, LeftBracket, RightBracket, Comma, Colon, Dot};
 
@@ -79,13 +80,41 @@ pub fn blanks_by_example()
     ensures indented { Reads (32 ∷ 32 ∷ 32 ∷ 32 ∷ 97 ∷ []) (token Word 4 5 ∷ []) }
 {}
 
-/// The place of the first byte that is no blank and begins no token, behind the tokens before it.
+/// A comment begins with `#`, goes to the end of the line and may have any bytes. The bytes of the last
+/// ones are given by number: 35 is `#`, 97 a letter, and 13, 195, 0, 36 and 9 begin no token.
+pub fn comments_by_example()
+    ensures alone { Reads (codes "# a") [] }
+    ensures nothing_more { Reads (codes "#") [] }
+    ensures behind_tokens { Reads (codes "x = 1 # c")
+        (token Word 0 1 ∷ token Equal 2 3 ∷ token Number 4 5 ∷ []) }
+    ensures at_once { Reads (codes "x=1#c")
+        (token Word 0 1 ∷ token Equal 1 2 ∷ token Number 2 3 ∷ []) }
+    ensures behind_blanks { Reads (codes "    # c") [] }
+    ensures second { Reads (codes "a # b # c") (token Word 0 1 ∷ []) }
+    ensures no_tokens { Reads (codes "a # 00 2x $ ! '") (token Word 0 1 ∷ []) }
+    ensures any_bytes { Reads (97 ∷ 35 ∷ 195 ∷ 0 ∷ 13 ∷ 36 ∷ 9 ∷ []) (token Word 0 1 ∷ []) }
+    ensures ends_with_return { Reads (35 ∷ 97 ∷ 13 ∷ []) [] }
+{}
+
+/// Only a byte 13 that is the last of a line is dropped, and only one.
+pub fn returns_by_example()
+    ensures last { without_return (97 ∷ 13 ∷ []) ≡ 97 ∷ [] }
+    ensures alone { without_return (13 ∷ []) ≡ [] }
+    ensures none { without_return (97 ∷ 98 ∷ []) ≡ 97 ∷ 98 ∷ [] }
+    ensures nothing { without_return [] ≡ [] }
+    ensures elsewhere { without_return (97 ∷ 13 ∷ 98 ∷ []) ≡ 97 ∷ 13 ∷ 98 ∷ [] }
+    ensures two { without_return (97 ∷ 13 ∷ 13 ∷ []) ≡ 97 ∷ 13 ∷ [] }
+    ensures blank_behind { without_return (13 ∷ 32 ∷ []) ≡ 13 ∷ 32 ∷ [] }
+    ensures comment { without_return (35 ∷ 97 ∷ 13 ∷ []) ≡ 35 ∷ 97 ∷ [] }
+{}
+
+/// The place of the first byte that is no blank and begins no comment and no token, behind the tokens
+/// before it.
 pub fn faults_by_example()
     ensures in_the_middle { IsFault (codes "a + $b") 4 }
     ensures bang { IsFault (codes "a ! b") 2 }
     ensures slash { IsFault (codes "a / b") 2 }
     ensures after_operator { IsFault (codes "a==/b") 3 }
-    ensures hash { IsFault (codes "x = 1 # c") 6 }
     ensures quote { IsFault (codes "'a'") 0 }
     ensures zero_in_front { IsFault (codes "a = 007") 4 }
     ensures two_zeros { IsFault (codes "00") 0 }
@@ -94,6 +123,9 @@ pub fn faults_by_example()
     ensures underscore { IsFault (codes "3_") 0 }
     ensures first_of_two { IsFault (codes "a $ b ?") 2 }
     ensures carriage_return { IsFault (97 ∷ 13 ∷ []) 1 }
+    ensures inner_return { IsFault (97 ∷ 13 ∷ 32 ∷ 98 ∷ []) 1 }
+    ensures second_return { IsFault (97 ∷ 13 ∷ 13 ∷ []) 1 }
+    ensures before_comment { IsFault (codes "a $ # c") 2 }
     ensures no_ascii { IsFault (97 ∷ 61 ∷ 195 ∷ 164 ∷ []) 2 }
     ensures zero_byte { IsFault (0 ∷ []) 0 }
 {}

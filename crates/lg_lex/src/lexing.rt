@@ -7,19 +7,20 @@ ghost use Rattle.lg_lex.specs.Lexical.{Begins, BeginsNone};
 ghost use Rattle.lg_lex.specs.Line.{Stands, Reads, EndsLexing, HasNone};
 ghost use Rattle.lg_lex.specs.declared.tokens.Token.{Token};
 
-use crate::bytes::{is_blank, is_letter, is_word_byte};
+use crate::bytes::{begins_comment, is_blank, is_letter, is_word_byte};
 use crate::numbers::number_of;
 use crate::operators::{one_in_front, three_in_front, two_in_front};
 use crate::tokens::{LexEnd, Token, TokenKind};
 use std::alloc::Global;
 
 /// The tokens of a line, each the bytes of the line from its start to its end. Spaces and tabs
-/// stand before, between and after them.
+/// stand before, between and after them, and a `#` behind them begins a comment, which goes to the
+/// end of the line and may have any bytes.
 ///
 /// # Errors
 ///
-/// `Fault` with the first place where a byte stands that is no blank and begins no token, and
-/// `NoMemory` where there is no memory for the tokens.
+/// `Fault` with the first place where a byte stands that is no blank and begins no comment and no
+/// token, and `NoMemory` where there is no memory for the tokens.
 pub fn lex_line(alloc: Global, line: &[u8]) -> Result<Vec<Token>, LexEnd>
     requires { length line.now < 2 ^ 32 }
     ensures tokens { IfOk result (λ tokens. Reads line.now tokens.items) }
@@ -31,7 +32,7 @@ pub fn lex_line(alloc: Global, line: &[u8]) -> Result<Vec<Token>, LexEnd>
 {
     let mut tokens = Vec::new(alloc);
     let mut place = 0;
-    while place < line.len() {
+    while place < line.len() && !begins_comment(line[place]) {
         if is_blank(line[place]) {
             place += 1;
             continue;

@@ -9,7 +9,7 @@ mod numbers;
 mod operators;
 mod tokens;
 
-pub use bytes::is_blank;
+pub use bytes::{is_blank, without_return};
 pub use lexing::lex_line;
 pub use numbers::number_of;
 pub use tokens::{LexEnd, Token, TokenKind};

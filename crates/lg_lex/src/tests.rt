@@ -47,11 +47,30 @@ fn good_lines(rt: HostRuntime) -> Result<(), Fail> {
 }
 
 #[test]
+fn comments(rt: HostRuntime) -> Result<(), Fail> {
+    let alloc = rt.alloc();
+    expect_tokens(&rt, alloc, b"# a comment", &[])?;
+    expect_tokens(&rt, alloc, b"\t # 00 $", &[])?;
+    expect_tokens(&rt, alloc, b"a # b # c", &[(TokenKind::Word, 0, 1)])?;
+    expect_tokens(&rt, alloc, b"7#\xc3\x00\r", &[(TokenKind::Number, 0, 1)])
+}
+
+#[test]
+fn returns(rt: HostRuntime) {
+    assert!(rt; without_return(b"x = 1\r") == b"x = 1".as_slice());
+    assert!(rt; without_return(b"\r") == b"".as_slice());
+    assert!(rt; without_return(b"x\r\r") == b"x\r".as_slice());
+    assert!(rt; without_return(b"x\ry") == b"x\ry".as_slice());
+    assert!(rt; without_return(b"# c\r") == b"# c".as_slice());
+    assert!(rt; without_return(b"") == b"".as_slice());
+}
+
+#[test]
 fn bad_lines(rt: HostRuntime) {
     let alloc = rt.alloc();
     expect_fault(&rt, alloc, b"a + $", 4);
-    expect_fault(&rt, alloc, b"x = 1 # c", 6);
     expect_fault(&rt, alloc, b"x\r", 1);
+    expect_fault(&rt, alloc, b"x\r = 1", 1);
     expect_fault(&rt, alloc, b"00", 0);
     expect_fault(&rt, alloc, b"1 18446744073709551616", 2);
     expect_fault(&rt, alloc, b"2x", 0);

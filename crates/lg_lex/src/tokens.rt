@@ -102,7 +102,7 @@ pub struct Token {
 #[derive(Clone, Copy, Debug, PartialEq, Eq)]
 pub enum LexEnd {
     /// Behind the tokens before it stands at this place a byte that is no blank and begins no
-    /// token.
+    /// comment and no token.
     Fault {
         /// The place in the line.
         place: u32,

@@ -1,4 +1,7 @@
--- The order in which faults are looked for.
+-- The order in which faults are looked for, which is this project's own: first the faults of all
+-- parts of an operation, from left to right; then its own, in the order type, range, index, step,
+-- shape, limit, and of one kind from left to right. Where an index, a `transpose` or a write has an
+-- order of its own, its file tells it.
 use Rattle.std.specs.Prelude.{Bool, if◌then◌else◌, List, [], ◌∷◌, Option, Some, None, Result, Ok, Err}
 use Rattle.lg_meaning.specs.declared.fault.FaultKind.{FaultKind}
 
@@ -21,6 +24,11 @@ needing holds kind answer = if holds then answer else Err kind
 abbrev pub or_fault : {A : Type 0} → Option A → FaultKind → Result A FaultKind
 or_fault None kind = Err kind
 or_fault (Some x) kind = Ok x
+
+-- what a part without a fault is. Nothing is asked of a part with one; it counts as this
+abbrev pub known_or : {A : Type 0} → A → Result A FaultKind → A
+known_or other (Ok a) = a
+known_or other (Err kind) = other
 
 -- the first fault in a list
 abbrev pub first_fault : List (Option FaultKind) → Option FaultKind

@@ -7,7 +7,6 @@ use Rattle.lg_elem.specs.Operations.{is_zero}
 use Rattle.lg_shape.specs.Shapes.{size_of}
 use Rattle.lg_meaning.specs.Weak as weak
 use Rattle.lg_meaning.specs.Weak.{Weak, number_of}
-use Rattle.lg_meaning.specs.Memory.{ArrayKind}
 use Rattle.lg_meaning.specs.Static.{Static, weak_value, array_value}
 
 -- an element of a type: a truth value as a word, a number in decimal

@@ -3,7 +3,6 @@
 -- have a range, and which operations keep them weak, is this project's own.
 use Rattle.std.specs.Prelude.{Bool, ◌&&◌, ℤ, pos, ◌+ℤ◌, ◌-ℤ◌, ◌*ℤ◌, int_le, if◌then◌else◌, Option, Some, None, Result, Ok, Err}
 use Rattle.std.specs.Int.{from_bool}
-use Rattle.lg_elem.specs.declared.dtype.DType.{DType}
 use Rattle.lg_elem.specs.declared.dtype.DType.TheVariants.{Int64, UInt64}
 use Rattle.lg_elem.specs.Types.{least, greatest}
 use Rattle.lg_elem.specs.Operations.{is_zero, floor_div}

@@ -1,12 +1,12 @@
 -- The value of each form from the values of its parts.
-use Rattle.std.proofs.Common.{◌≡◌, ℕ, Bool, true, false, List, [], ◌∷◌, ◌++◌, map, Option, Some, Result, Ok, Err, refl, sym, ap, subst, ◌∙◌, option_map, pos, if◌then◌else◌}
+use Rattle.std.proofs.Common.{◌≡◌, ℕ, Bool, true, false, List, [], ◌∷◌, ◌++◌, map, Option, None, Some, Result, Ok, Err, refl, sym, ap, ◌∙◌, option_map, pos, if◌then◌else◌}
 use Rattle.std.proofs.lemmas.Simd.{map-map}
 use Rattle.lg_elem.specs.declared.dtype.DType.{DType}
 use Rattle.lg_elem.specs.declared.dtype.DType.TheVariants.{Int64}
 use Rattle.lg_elem.specs.declared.kinds.Compare.{Compare}
 use Rattle.lg_elem.specs.declared.kinds.Binary.TheVariants as binary
 use Rattle.lg_tree.specs.declared.kinds.Arith.{Arith}
-use Rattle.lg_tree.specs.Tree.{Tree, name, arith, compare, full, zeros, ones, arange, array, minimum, maximum, choose, MaybeTree, no_tree, some_tree, ShapeTree, one, ListTree}
+use Rattle.lg_tree.specs.Tree.{Tree, name, arith, compare, full, zeros, ones, arange, array, minimum, maximum, choose, MaybeTree, no_tree, some_tree, ShapeTree, ListTree}
 use Rattle.lg_meaning.specs.declared.fault.FaultKind.{FaultKind}
 use Rattle.lg_meaning.specs.declared.fault.FaultKind.TheVariants.{TypeKind}
 use Rattle.lg_meaning.specs.Faults.{from_part, from_both}
@@ -14,23 +14,25 @@ use Rattle.lg_meaning.specs.Weak as weak
 use Rattle.lg_meaning.specs.Weak.{number_of}
 use Rattle.lg_meaning.specs.Memory as memory
 use Rattle.lg_meaning.specs.Memory.{ArrayKind, State}
-use Rattle.lg_meaning.specs.Static.{Static, weak_value, array_value, arith_static, compare_static, binary_static, choose_static, full_static, shaped, arange_static, array_static, integers, integer_of, weak_of as weak_part, weaks, type_or, list_type, list_shape, list_static, shape_static, maybe_static, static_of, named, operation}
+use Rattle.lg_meaning.specs.Static.{Static, array_value, integers, integer_of, weak_of as weak_part, weaks}
+use Rattle.lg_meaning.specs.Operators.{arith_static, compare_static, binary_static, choose_static, operation, binary_value, compare_value, choose_value}
+use Rattle.lg_meaning.specs.Creation.{full_static, shaped, arange_static, array_static, type_or, list_type, list_shape, filled, counted, listed}
+use Rattle.lg_meaning.specs.Expressions.{list_static, shape_static, maybe_static, static_of, named, evaluated, first_bound, list_numbers}
+use Rattle.lg_meaning.specs.Sharing.{named_view, shared_view}
 use Rattle.lg_meaning.specs.Value as meaning
-use Rattle.lg_meaning.specs.Value.{valued, shown, evaluated, first_bound, list_numbers, binary_value, compare_value, choose_value, filled, counted, listed, only}
+use Rattle.lg_meaning.specs.Value.{valued, shown, only}
 use Rattle.lg_store.specs.declared.view.View.{View as CodeView}
 use Rattle.lg_session.specs.Operations.{weak_of}
-use Rattle.lg_session.specs.Worlds.{shown_in, IsShown}
 use Rattle.lg_session.specs.Names.{view_of, bound_of, bound_at, environment}
 use Rattle.lg_session.specs.Roots.{contents}
 use Rattle.lg_session.specs.Standing.{StandsFor, roots_in, names_in}
-use Rattle.lg_session.specs.Values.{value_static, value_in, IsComputed, IsNoName, Means, IsOutcome, IsFirstBound, IsExtent}
+use Rattle.lg_session.specs.Values.{value_static, value_in, IsComputed, Means, IsOutcome, IsFirstBound}
 use Rattle.lg_session.specs.Lists.{gathered, joined, Gathers}
 use Rattle.lg_session.proofs.Links.{named_there, named_shown, shown_alike}
 use Rattle.lg_session.specs.declared.lists.Members.{Members}
 use Rattle.lg_session.specs.declared.names.Bound.TheVariants.{Array}
 use Rattle.lg_session.specs.declared.operations.end.EvaluateEnd.{EvaluateEnd}
 use Rattle.lg_session.specs.declared.operations.end.EvaluateEnd.TheVariants.{Fault, NoMemory}
-use Rattle.lg_session.specs.declared.operations.values.Weak.{Weak as CodeWeak}
 use Rattle.lg_session.specs.declared.session.Session.{Session}
 use Rattle.lg_session.specs.declared.value.Value.{Value}
 use Rattle.lg_session.specs.declared.value.Value.TheVariants.{Weak, Shown, Fresh}
@@ -50,9 +52,9 @@ written shape t ws = array_static shape ws (type_or t (list_type ws))
 
 module _ (state : State) (session : Session) where
   -- the value of a form that is no name, from its kind and its value
-  computed : (e : Tree) → IsNoName e → (S : Result Static FaultKind) (V : ArrayKind → meaning.Value) → static_of e state.names ≡ S
+  computed : (e : Tree) → shared_view e state.names ≡ None → (S : Result Static FaultKind) (V : ArrayKind → meaning.Value) → static_of e state.names ≡ S
       → evaluated e state.memory state.names ≡ valued S V → (answer : Result Value EvaluateEnd) → IsComputed S V answer → IsOutcome e state session answer
-  computed e anew S V kind value (Ok (Weak w)) h = record { kind = kind ∙ h; same = value ∙ ap (λ s. valued s V) h; source = tt }
+  computed e anew S V kind value (Ok (Weak w)) h = record { kind = kind ∙ h; same = value ∙ ap (λ s. valued s V) h; source = anew }
   computed e anew S V kind value (Ok (Shown view)) h = absurd h
   computed e anew S V kind value (Ok (Fresh fresh)) h = record { kind = kind ∙ h.kind; same = value ∙ ap (λ s. valued s V) h.kind ∙ sym h.same; source = anew }
   computed e anew S V kind value (Err (Fault fault)) h = kind ∙ h
@@ -64,26 +66,26 @@ module _ (state : State) (session : Session) where
         → IsOutcome (arith op a b) state session answer
     arith_outcome op h =
         let kind = both_ok (static_of a state.names) (static_of b state.names) _ _ (arith_static op) ma.kind mb.kind in
-        computed (arith op a b) tt _ _ kind (λ i. valued (kind i) (binary_value (operation op) (ma.same i) (mb.same i))) answer h
+        computed (arith op a b) refl _ _ kind (λ i. valued (kind i) (binary_value (operation op) (ma.same i) (mb.same i))) answer h
 
     pub compare_outcome : (op : Compare)
         → IsComputed (compare_static op (value_static p) (value_static q)) (compare_value op (value_in (contents session.roots) p) (value_in (contents session.roots) q)) answer
         → IsOutcome (compare op a b) state session answer
     compare_outcome op h =
         let kind = both_ok (static_of a state.names) (static_of b state.names) _ _ (compare_static op) ma.kind mb.kind in
-        computed (compare op a b) tt _ _ kind (λ i. valued (kind i) (compare_value op (ma.same i) (mb.same i))) answer h
+        computed (compare op a b) refl _ _ kind (λ i. valued (kind i) (compare_value op (ma.same i) (mb.same i))) answer h
 
     pub minimum_outcome : IsComputed (binary_static binary.Min (value_static p) (value_static q)) (binary_value binary.Min (value_in (contents session.roots) p) (value_in (contents session.roots) q)) answer
         → IsOutcome (minimum a b) state session answer
     minimum_outcome h =
         let kind = both_ok (static_of a state.names) (static_of b state.names) _ _ (binary_static binary.Min) ma.kind mb.kind in
-        computed (minimum a b) tt _ _ kind (λ i. valued (kind i) (binary_value binary.Min (ma.same i) (mb.same i))) answer h
+        computed (minimum a b) refl _ _ kind (λ i. valued (kind i) (binary_value binary.Min (ma.same i) (mb.same i))) answer h
 
     pub maximum_outcome : IsComputed (binary_static binary.Max (value_static p) (value_static q)) (binary_value binary.Max (value_in (contents session.roots) p) (value_in (contents session.roots) q)) answer
         → IsOutcome (maximum a b) state session answer
     maximum_outcome h =
         let kind = both_ok (static_of a state.names) (static_of b state.names) _ _ (binary_static binary.Max) ma.kind mb.kind in
-        computed (maximum a b) tt _ _ kind (λ i. valued (kind i) (binary_value binary.Max (ma.same i) (mb.same i))) answer h
+        computed (maximum a b) refl _ _ kind (λ i. valued (kind i) (binary_value binary.Max (ma.same i) (mb.same i))) answer h
 
     pub choose_outcome : (c : Tree) (k : Value) → Means c state session k
         → IsComputed (choose_static (value_static k) (value_static p) (value_static q))
@@ -93,32 +95,28 @@ module _ (state : State) (session : Session) where
         let kind : static_of (choose c a b) state.names ≡ choose_static (value_static k) (value_static p) (value_static q) =
         both_ok (static_of c state.names) (static_of a state.names) _ _ (λ s x. from_part (static_of b state.names) (choose_static s x)) mc.kind ma.kind
         ∙ part_ok (static_of b state.names) _ (choose_static (value_static k) (value_static p)) mb.kind in
-        computed (choose c a b) tt _ _ kind (λ i. valued (kind i) (choose_value (mc.same i) (ma.same i) (mb.same i))) answer h
+        computed (choose c a b) refl _ _ kind (λ i. valued (kind i) (choose_value (mc.same i) (ma.same i) (mb.same i))) answer h
 
-  -- an extent
-  extent_kind : (s : ShapeTree) (p : Value) → IsExtent s state session (Ok p) → shape_static s state.names ≡ Ok (value_static p ∷ [])
-  extent_kind (one e) p m = part_ok (static_of e state.names) _ (λ a. Ok (a ∷ [])) m.kind
-
-  module _ (answer : Result Value EvaluateEnd) (s : ShapeTree) (p : Value) (ms : IsExtent s state session (Ok p)) (t : Option DType) where
+  module _ (answer : Result Value EvaluateEnd) (s : ShapeTree) (ps : List Value) (ms : shape_static s state.names ≡ Ok (map value_static ps)) (t : Option DType) where
     pub full_outcome : (x : Tree) (q : Value) → Means x state session q
-        → IsComputed (from_both (integers (value_static p ∷ [])) (weak_part (value_static q)) (λ xs w. full_static xs w t)) (filled (only (value_in (contents session.roots) q))) answer
+        → IsComputed (from_both (integers (map value_static ps)) (weak_part (value_static q)) (λ xs w. full_static xs w t)) (filled (only (value_in (contents session.roots) q))) answer
         → IsOutcome (full s x t) state session answer
     full_outcome x q mx h =
         let kind = both_ok (shape_static s state.names) (static_of x state.names) _ _ (λ parts v. from_both (integers parts) (weak_part v) (λ xs w. full_static xs w t))
-        (extent_kind s p ms) mx.kind in
-        computed (full s x t) tt _ _ kind (λ i. valued (kind i) (filled (only (mx.same i)))) answer h
+        ms mx.kind in
+        computed (full s x t) refl _ _ kind (λ i. valued (kind i) (filled (only (mx.same i)))) answer h
 
-    pub zeros_outcome : IsComputed (from_part (integers (value_static p ∷ [])) (shaped (type_or t Int64))) (filled (pos 0)) answer
+    pub zeros_outcome : IsComputed (from_part (integers (map value_static ps)) (shaped (type_or t Int64))) (filled (pos 0)) answer
         → IsOutcome (zeros s t) state session answer
     zeros_outcome h =
-        let kind = part_ok (shape_static s state.names) _ (λ parts. from_part (integers parts) (shaped (type_or t Int64))) (extent_kind s p ms) in
-        computed (zeros s t) tt _ _ kind (λ i. valued (kind i) (filled (pos 0))) answer h
+        let kind = part_ok (shape_static s state.names) _ (λ parts. from_part (integers parts) (shaped (type_or t Int64))) ms in
+        computed (zeros s t) refl _ _ kind (λ i. valued (kind i) (filled (pos 0))) answer h
 
-    pub ones_outcome : IsComputed (from_part (integers (value_static p ∷ [])) (shaped (type_or t Int64))) (filled (pos 1)) answer
+    pub ones_outcome : IsComputed (from_part (integers (map value_static ps)) (shaped (type_or t Int64))) (filled (pos 1)) answer
         → IsOutcome (ones s t) state session answer
     ones_outcome h =
-        let kind = part_ok (shape_static s state.names) _ (λ parts. from_part (integers parts) (shaped (type_or t Int64))) (extent_kind s p ms) in
-        computed (ones s t) tt _ _ kind (λ i. valued (kind i) (filled (pos 1))) answer h
+        let kind = part_ok (shape_static s state.names) _ (λ parts. from_part (integers parts) (shaped (type_or t Int64))) ms in
+        computed (ones s t) refl _ _ kind (λ i. valued (kind i) (filled (pos 1))) answer h
 
   -- the bound from which `arange` counts
   bound_kind : (m : MaybeTree) (p : Value) → IsFirstBound m state session (Ok p) → maybe_static m state.names ≡ Ok (value_static p)
@@ -135,7 +133,7 @@ module _ (state : State) (session : Session) where
   arange_outcome answer m b p q t mp mq h =
       let kind = both_ok (maybe_static m state.names) (static_of b state.names) _ _ (λ p q. from_both (integer_of p) (integer_of q) (λ x y. arange_static x y (type_or t Int64)))
       (bound_kind m p mp) mq.kind in
-      computed (arange m b t) tt _ _ kind (λ i. valued (kind i) (counted (bound_value m p mp i))) answer h
+      computed (arange m b t) refl _ _ kind (λ i. valued (kind i) (counted (bound_value m p mp i))) answer h
 
   -- a fault of the second bound
   pub arange_end : (end : EvaluateEnd) (m : MaybeTree) (b : Tree) (p : Value) (t : Option DType) → IsFirstBound m state session (Ok p) → IsOutcome b state session (Err end)
@@ -156,7 +154,7 @@ module _ (state : State) (session : Session) where
       → IsComputed (from_part (gathered members) (written shape t)) (listed (map (λ w. number_of (weak_of w)) members.weaks.items)) answer
       → IsOutcome (array l t) state session answer
   array_outcome answer l t none members shape empty g is h =
-      computed (array l t) tt _ _ kind (ap (λ r. valued r (listed (list_numbers l state.memory state.names))) kind ∙ by_flag members.has_array refl) answer h
+      computed (array l t) refl _ _ kind (ap (λ r. valued r (listed (list_numbers l state.memory state.names))) kind ∙ by_flag members.has_array refl) answer h
     where
       found : weaks g.parts ≡ gathered members
       found = sym (joined-nothing (weaks g.parts)) ∙ ap (λ r. joined r (weaks g.parts)) (sym empty) ∙ sym g.more
@@ -193,5 +191,5 @@ module _ (state : State) (session : Session) where
         same = ap (λ r. valued r (shown state.memory (names_in state word))) kind
             ∙ ap (λ o. shown state.memory o (view_of view).kind) b.1
             ∙ ap (meaning.plain (view_of view).kind.shape) (sym (shown_alike A (roots_in state) m (names_in state) (view_of view) b.0 r.stands s));
-        source = record { word = word; is = refl; there = b.0; bound = b.1; shown = s };
+        source = record { there = b.0; is = ap named_view b.1; inside = r.sound word b.0 b.1; shown = s };
       }

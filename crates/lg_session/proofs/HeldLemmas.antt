@@ -1,7 +1,7 @@
 -- What the session keeps of what names stand for, from one step to the next.
-use Rattle.std.proofs.Common.{◌≡◌, ◌≢◌, ℕ, ◌==◌, eqb-true, eq-eqb, Bool, true, false, ◌⊎◌, inl, inr, ⊎_elim, List, [], length, map, get_or, Option, None, Some, Result, Ok, Err, OnOk, OnErr, IfOk, IsSomeAnd, option_map, option_and_then, refl, sym, ap, subst, ◌∙◌, ℤ, pos, bytes_eq, if◌then◌else◌, slice_get}
+use Rattle.std.proofs.Common.{◌≡◌, ◌≢◌, ℕ, ◌==◌, eqb-true, eq-eqb, Bool, true, false, ◌⊎◌, inl, inr, ⊎_elim, List, [], length, map, get_or, Option, None, Some, Result, Ok, Err, OnOk, OnErr, IfOk, IsSomeAnd, option_and_then, refl, sym, ap, subst, ◌∙◌, ℤ, pos, bytes_eq, if◌then◌else◌}
 use Rattle.std.specs.List.{range_with_len}
-use Rattle.std.specs.Cmp.Lexicographic.{bytes_decides, nat_list_cmp_total, slice_cmp}
+use Rattle.std.specs.Cmp.Lexicographic.{bytes_decides, slice_cmp}
 use Rattle.std.specs.Ordering.{nat_cmp}
 use Rattle.std.specs.FinMap.{get, get-empty}
 use Rattle.std.proofs.lemmas.Bool.{cases_Bool, cond-true, cond-false}
@@ -9,7 +9,6 @@ use Rattle.std.proofs.lemmas.List.FromFn.{fill_by_all}
 use Rattle.std.proofs.lemmas.Option.{same_Some}
 use Rattle.lg_store.specs.declared.view.View.{View as CodeView}
 use Rattle.lg_shape.specs.Shapes.{size_of}
-use Rattle.lg_xform.specs.Chains.{shape_of}
 use Rattle.lg_tile.specs.declared.any_tile.AnyTile.{AnyTile}
 use Rattle.lg_tile.specs.Tiles.{numbers}
 use Rattle.lg_meaning.specs.Memory as memory
@@ -17,13 +16,12 @@ use Rattle.lg_meaning.specs.Memory.{Root, View, numbers_of}
 use Rattle.lg_meaning.specs.Run.{start}
 use Rattle.lg_meaning.specs.Value as meaning
 use Rattle.lg_meaning.specs.Value.{plain}
-use Rattle.lg_session.specs.Operations.{weak_of, value_with, IsRanged}
-use Rattle.lg_session.specs.Worlds.{Roots, Names, Place, number_at, shown_in, Linked, Stands, IsInside, AreInside, SameBound}
-use Rattle.lg_session.specs.Names.{view_of, bound_of, bound_at, viewed_root, environment, IsReached}
+use Rattle.lg_session.specs.Operations.{value_with}
+use Rattle.lg_session.specs.Worlds.{Roots, Names, number_at, shown_in, SameBound}
+use Rattle.lg_session.specs.Names.{view_of, bound_at, viewed_root, IsReached}
 use Rattle.lg_session.specs.Roots.{root_of}
 use Rattle.lg_session.specs.Stored.{IsWholeOf, IsHeld, IsStored, AreHeld, AreRanged, IsTidyAt}
 use Rattle.lg_session.specs.Standing.{Represents, names_in}
-use Rattle.lg_session.specs.declared.operations.values.Weak.{Weak as CodeWeak}
 use Rattle.lg_session.specs.declared.names.Bound.{Bound}
 use Rattle.lg_session.specs.declared.names.Bound.TheVariants.{Weak, Array}
 use Rattle.lg_session.specs.declared.names.Names.{Names as CodeNames}

@@ -6,6 +6,8 @@ pub mod HeldLemmas
 pub mod RangeLemmas
 pub mod FormLemmas
 pub mod TreeLemmas
+pub mod BuiltLemmas
+pub mod ExtentLemmas
 pub mod ListLemmas
 pub mod ShapeLemmas
 pub mod StepLemmas

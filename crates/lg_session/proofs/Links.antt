@@ -5,7 +5,7 @@ use Rattle.std.proofs.lemmas.List.{same_lists, length-map}
 use Rattle.std.proofs.lemmas.List.FromFn.{length-range_with_len, get_or-range_with_len}
 use Rattle.std.proofs.lemmas.Option.{slice_get-map, slice_get_within, slice_get-get_or, get_or_from_slice_get, same_Some}
 use Rattle.lg_meaning.specs.Memory.{Root, View, Bound, weak, array, numbers_of}
-use Rattle.lg_session.specs.Worlds.{Roots, Names, Place, number_at, shown_in, put, SameKind, SameBound, AtOneIndex, Linked, Stands, IsShown, IsInside, AreInside}
+use Rattle.lg_session.specs.Worlds.{Roots, Names, Place, number_at, shown_in, put, SameKind, SameBound, AtOneIndex, Linked, Stands, IsShown, AreInside}
 
 -- ---- one link
 

@@ -1,5 +1,5 @@
 -- What stands in nested lists, list after list.
-use Rattle.std.proofs.Common.{◌≡◌, ℕ, suc, zero, ◌+◌, ◌-◌, ◌*◌, Bool, true, false, List, [], ◌∷◌, ◌++◌, length, map, Option, None, Some, Result, Ok, Err, IfSome, refl, sym, ap, subst, ◌∙◌, option_map, append-nil, append_assoc, bytes_eq, if◌then◌else◌, arith, ℤ}
+use Rattle.std.proofs.Common.{◌≡◌, ℕ, suc, ◌+◌, ◌-◌, ◌*◌, Bool, true, false, List, [], ◌∷◌, ◌++◌, length, map, Option, None, Some, Result, Ok, Err, IfSome, refl, sym, ap, ◌∙◌, option_map, append-nil, append_assoc, bytes_eq, if◌then◌else◌, arith, ℤ}
 use Rattle.std.specs.Cmp.Lexicographic.{bytes_decides}
 use Rattle.std.proofs.lemmas.List.{map-append}
 use Rattle.std.proofs.lemmas.Option.{same_Some}
@@ -10,13 +10,17 @@ use Rattle.lg_meaning.specs.declared.fault.FaultKind.{FaultKind}
 use Rattle.lg_meaning.specs.Faults.{from_part, from_both}
 use Rattle.lg_meaning.specs.Memory.{State}
 use Rattle.lg_meaning.specs.Weak.{Weak, number_of}
-use Rattle.lg_meaning.specs.Static.{Static, weak_value, weak_of, weaks, list_static, lists_static, static_of, list_shape, row_shape, same_shape, count_of}
-use Rattle.lg_meaning.specs.Value.{list_numbers, lists_numbers, only}
+use Rattle.lg_meaning.specs.Static.{Static, weak_value, weak_of, weaks}
+use Rattle.lg_meaning.specs.Creation.{list_shape, row_shape, same_shape, count_of}
+use Rattle.lg_meaning.specs.Expressions.{list_static, lists_static, list_numbers, lists_numbers}
+use Rattle.lg_meaning.specs.Value.{only}
 use Rattle.lg_session.specs.Operations.{weak_of as weak_in}
 use Rattle.lg_session.specs.Values.{value_static, Means}
-use Rattle.lg_session.specs.Lists.{leaves, all_leaves, gathered, joined, Gathers}
+use Rattle.lg_session.specs.Lists.{leaves, all_leaves, gathered, joined, Gathers, IsGathered}
 use Rattle.lg_session.specs.ListShapes.{is_alike}
 use Rattle.lg_session.specs.declared.lists.Members.{Members}
+use Rattle.lg_session.specs.declared.operations.end.EvaluateEnd.{EvaluateEnd}
+use Rattle.lg_session.specs.declared.operations.end.EvaluateEnd.TheVariants.{Fault, NoMemory}
 use Rattle.lg_session.specs.declared.session.Session.{Session}
 use Rattle.lg_session.specs.declared.value.Value.{Value}
 use Rattle.lg_session.specs.declared.value.Value.TheVariants as value
@@ -100,6 +104,11 @@ carries_end all state old now c = c.whole now (gathers_none state now)
 pub carries_stop : (all rest : List ListTree) (x : ListTree) (state : State) (old now : Members) (kind : FaultKind) → Carries all (x ∷ rest) state old now
     → list_static x state.names ≡ Err kind → lists_static (list_trees all) state.names ≡ Err kind
 carries_stop all rest x state old now kind c e = c.fault kind (ap (λ r. from_both r (lists_static (list_trees rest) state.names) (λ xs ys. Ok (xs ++ ys))) e)
+
+pub gather_ends : (l : ListTree) (all rest : List ListTree) (x : ListTree) (state : State) (old now next : Members) (end : EvaluateEnd) → l ≡ list (list_trees all)
+    → Carries all (x ∷ rest) state old now → IsGathered x state now next (Err end) → IsGathered l state old next (Err end)
+gather_ends l all rest x state old now next (Fault kind) is c h = ap (λ t. list_static t state.names) is ∙ carries_stop all rest x state old now kind c h
+gather_ends l all rest x state old now next NoMemory is c h = tt
 
 -- one expression
 pub leaf_gathered : (e : Tree) (state : State) (session : Session) (v : Value) (old new : Members) → Means e state session v

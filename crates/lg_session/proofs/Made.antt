@@ -10,7 +10,7 @@ use Rattle.lg_meaning.specs.Memory.{ArrayKind, Right}
 use Rattle.lg_meaning.specs.Static.{Static, array_value}
 use Rattle.lg_meaning.specs.Value.{Value}
 use Rattle.lg_session.specs.declared.operations.values.Fresh.{Fresh}
-use Rattle.lg_session.specs.Operations.{extents_of, fresh_kind, fresh_value, right_for, IsArrayOf}
+use Rattle.lg_session.specs.Operations.{extents_of, fresh_kind, right_for, IsArrayOf}
 use Rattle.lg_session.proofs.Shapes.{ends_of, ends-whole}
 use Rattle.lg_session.proofs.Statics.{kind_with}
 

@@ -1,5 +1,5 @@
 -- A map whose keys are bytes, after a change at one key.
-use Rattle.std.proofs.Common.{◌≡◌, ℕ, Bool, true, false, List, Option, Some, sym, ap, subst, ◌∙◌, bytes_eq, if◌then◌else◌, ⊎_elim}
+use Rattle.std.proofs.Common.{◌≡◌, ℕ, Bool, false, List, Some, sym, subst, ◌∙◌, bytes_eq, if◌then◌else◌, ⊎_elim}
 use Rattle.std.specs.Ordering.{nat_cmp, is_eq}
 use Rattle.std.specs.Cmp.Lexicographic.{slice_cmp, bytes_decides, nat_list_eq_equiv}
 use Rattle.std.specs.Map.{lookup, IsKeyTest, AreApart, KeepsOthers}

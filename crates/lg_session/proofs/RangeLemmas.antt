@@ -1,15 +1,12 @@
 -- What arithmetic on weak numbers alone gives is in their range.
-use Rattle.std.proofs.Common.{◌≡◌, Bool, true, false, ◌&&◌, Some, Result, Ok, Err, sym, ap, subst, ◌∙◌, refl, ℤ, pos, ◌+ℤ◌, ◌-ℤ◌, ◌*ℤ◌, ◌≤ℤ◌, int_le, if◌then◌else◌, arith}
+use Rattle.std.proofs.Common.{◌≡◌, Bool, true, false, ◌&&◌, Some, Ok, Err, ◌∙◌, ℤ, ◌+ℤ◌, ◌-ℤ◌, ◌*ℤ◌, ◌≤ℤ◌, if◌then◌else◌, arith}
 use Rattle.std.proofs.lemmas.Option.{same_Some}
 use Rattle.std.proofs.lemmas.Grind.{common_steps}
-use Rattle.lg_elem.specs.declared.dtype.DType.TheVariants.{Int64, UInt64}
-use Rattle.lg_elem.specs.Types.{least, greatest}
 use Rattle.lg_elem.specs.Operations.{is_zero, floor_div}
 use Rattle.lg_tree.specs.declared.kinds.Arith.{Arith}
 use Rattle.lg_tree.specs.declared.kinds.Arith.TheVariants.{Add, Sub, Mul, FloorDiv, Rem, Pow, BitAnd, BitOr, BitXor, Shl, Shr}
-use Rattle.lg_meaning.specs.declared.fault.FaultKind.{FaultKind}
 use Rattle.lg_meaning.specs.declared.fault.FaultKind.TheVariants.{Divisor}
-use Rattle.lg_meaning.specs.Weak.{Weak, integer, number_of, ranged, divided, weak_arith}
+use Rattle.lg_meaning.specs.Weak.{Weak, ranged, divided, weak_arith}
 use Rattle.lg_session.specs.Operations.{IsRanged}
 
 ranged_within : (x : ℤ) (w : Weak) → ranged x ≡ Ok w → IsRanged w

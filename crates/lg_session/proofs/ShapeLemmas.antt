@@ -1,9 +1,9 @@
 -- The shape of nested lists, as the code finds it.
-use Rattle.std.proofs.Common.{◌≡◌, ℕ, suc, ◌+◌, ◌<◌, List, [], ◌∷◌, length, map, drop, drop-cons, get_or, Option, None, Some, sym, ap, ◌∙◌, option_map, arith}
+use Rattle.std.proofs.Common.{◌≡◌, ℕ, suc, ◌+◌, ◌<◌, List, [], ◌∷◌, length, map, drop, drop-cons, get_or, None, Some, sym, ap, ◌∙◌, option_map, arith}
 use Rattle.std.proofs.lemmas.List.{length-map}
 use Rattle.lg_tree.specs.View.{list_of, list_trees}
 use Rattle.lg_tree.specs.declared.trees.ListExpr.{ListExpr, List as Listed}
-use Rattle.lg_meaning.specs.Static.{list_shape, row_shape, count_of}
+use Rattle.lg_meaning.specs.Creation.{list_shape, row_shape}
 use Rattle.lg_session.proofs.TreeLemmas.{tree-List}
 use Rattle.lg_session.proofs.ListLemmas.{rest_shape, first_shape, first_none, count-trees}
 

@@ -1,12 +1,11 @@
 -- The index of an operand that belongs to an index of the result.
-use Rattle.std.proofs.Common.{◌≡◌, ℕ, zero, suc, ◌+◌, ◌-◌, ◌*◌, ◌<◌, ◌≤◌, ◌⊎◌, inl, inr, List, [], ◌∷◌, ◌++◌, length, map, drop, refl, sym, ap, subst, ◌∙◌, arith, length-append, All}
+use Rattle.std.proofs.Common.{◌≡◌, ℕ, suc, ◌+◌, ◌-◌, ◌*◌, ◌<◌, ◌≤◌, ◌⊎◌, inl, inr, List, [], ◌∷◌, ◌++◌, length, drop, refl, sym, ap, subst, ◌∙◌, arith, length-append, All}
 use Rattle.std.specs.Prelude.{if◌then◌else◌, ◌==◌}
 use Rattle.std.proofs.lemmas.Bool.Decides.{nat_tests}
 use Rattle.std.proofs.lemmas.List.{map-append, length-map}
 use Rattle.std.proofs.lemmas.List.Elements.{All-head, All-tail}
 use Rattle.std.proofs.Math.Seq.{drop-append_seam}
-use Rattle.lg_space.specs.Rectangle.{IsIn, volume_of, place_in}
-use Rattle.lg_space.specs.Stored.{MAX_END}
+use Rattle.lg_space.specs.Rectangle.{IsIn}
 use Rattle.lg_space.proofs.Inside.{same_axes, in-drop}
 use Rattle.lg_shape.specs.Shapes.{whole, pinned, aligned, place_of, size_of}
 use Rattle.lg_session.specs.Lending.{FitsOver, SpreadsTo}

@@ -1,29 +1,31 @@
 -- What a statement does to the session, from what binding and printing do.
-use Rattle.std.proofs.Common.{◌≡◌, ℕ, List, [], ◌∷◌, Option, None, Some, Result, Ok, Err, Vec, refl, sym, ap, subst, ◌∙◌, bytes_eq, if◌then◌else◌}
+use Rattle.std.proofs.Common.{◌≡◌, ℕ, List, [], ◌∷◌, None, Some, Result, Ok, Err, Vec, refl, sym, ap, subst, ◌∙◌, bytes_eq, if◌then◌else◌}
 use Rattle.std.specs.declared.alloc.Global.{Global}
 use Rattle.lg_store.specs.declared.view.View.{View as CodeView}
 use Rattle.lg_tile.specs.Tiles.{numbers}
 use Rattle.lg_tree.specs.Tree.{Tree, bind, print, LineTree}
+use Rattle.lg_tree.specs.View.{statement_of, line_of}
+use Rattle.lg_tree.specs.declared.trees.Line.{Line}
 use Rattle.lg_meaning.specs.declared.fault.FaultKind.{FaultKind}
 use Rattle.lg_meaning.specs.Memory as memory
 use Rattle.lg_meaning.specs.Memory.{View, State, array}
-use Rattle.lg_meaning.specs.Static.{Static, static_of, array_value}
+use Rattle.lg_meaning.specs.Static.{Static}
+use Rattle.lg_meaning.specs.Expressions.{static_of}
 use Rattle.lg_meaning.specs.Value as meaning
-use Rattle.lg_meaning.specs.Value.{evaluated}
 use Rattle.lg_meaning.specs.Text.{printed, printed_type}
 use Rattle.lg_meaning.specs.Step.{Stepped, step, bind_step, print_step, print_value, text_unless, rebound as rebound_state, newly_bound}
 use Rattle.lg_session.specs.Operations.{weak_of, fresh_kind}
 use Rattle.lg_session.specs.Worlds.{IsInside, AtOneIndex, Linked, Place}
-use Rattle.lg_session.specs.Names.{bound_at, bound_of, view_of, environment}
+use Rattle.lg_session.specs.Names.{bound_at, view_of, environment}
 use Rattle.lg_session.specs.Roots.{contents}
-use Rattle.lg_session.specs.Standing.{Represents, StandsFor, roots_in, names_in}
+use Rattle.lg_session.specs.Standing.{StandsFor, roots_in, names_in}
 use Rattle.lg_session.specs.Values.{value_static, value_in, Means, IsOutcome}
 use Rattle.lg_session.specs.Texts.{IsPrinted}
-use Rattle.lg_session.specs.Session.{Binds, IsBound, Prints, IsText, Executes, IsExecuted, StopsAt}
+use Rattle.lg_session.specs.Session.{Binds, IsBound, IsText, Executes, IsExecuted, StopsAt}
 use Rattle.lg_session.specs.Ends.{stop_at}
+use Rattle.lg_session.proofs.BuiltLemmas.{line-Line}
 use Rattle.lg_session.proofs.Links.{BoundLinked}
 use Rattle.lg_session.proofs.StepLemmas.{Keeps, represents_rebound, bound_weak, bound_shown, bound_fresh}
-use Rattle.lg_session.specs.declared.names.Bound.{Bound as CodeBound}
 use Rattle.lg_session.specs.declared.names.Bound.TheVariants as code
 use Rattle.lg_session.specs.declared.operations.end.EvaluateEnd.{EvaluateEnd}
 use Rattle.lg_session.specs.declared.operations.end.EvaluateEnd.TheVariants.{Fault, NoMemory}
@@ -43,7 +45,7 @@ module _ (state : State) (e : Tree) (word : List ℕ) (old new : Session) where
         → ((w : List ℕ) → bound_at new.names w ≡ (if bytes_eq word w then Some (code.Weak x) else bound_at old.names w)) → Binds word e state new
     binds_weak x m set =
         let after : (step (bind word e) state).state ≡ rebound_state word (memory.weak (weak_of x)) state =
-        ap (λ s. (bind_step word e state s).state) m.kind ∙ bound_weak word e (weak_of x) state m.kind in
+        ap (λ s. (bind_step word e state s).state) m.kind ∙ bound_weak word e (weak_of x) state m.source in
         record {
           sound = bind_fault (Weak x) m;
           stands = subst (StandsFor new) (sym after)
@@ -59,12 +61,12 @@ module _ (state : State) (e : Tree) (word : List ℕ) (old new : Session) where
     binds_shown view m set =
         let s = m.source in
         let after : (step (bind word e) state).state ≡ rebound_state word (array s.there) state =
-        ap (λ k. (bind_step word e state k).state) m.kind ∙ bound_shown word e (value_static (Shown view)) state s.word s.there s.is s.bound in
+        ap (λ k. (bind_step word e state k).state) m.kind ∙ bound_shown word e (value_static (Shown view)) state s.there s.is in
         record {
           sound = bind_fault (Shown view) m;
           stands = subst (StandsFor new) (sym after)
               (represents_rebound (contents old.roots) (contents new.roots) old.names new.names state word (code.Array view) (array s.there) r set keeps s.shown.kind
-              linked (λ v is. subst (IsInside (roots_in state)) (same_view s.there v is) (r.sound s.word s.there s.bound)));
+              linked (λ v is. subst (IsInside (roots_in state)) (same_view s.there v is) s.inside));
         }
       where
         same_view : (a b : View) → array a ≡ array b → a ≡ b
@@ -143,3 +145,10 @@ executed_print e state session (Err NoMemory) stands h = tt
 pub stops_at : (line : LineTree) (state : State) (session : Session) (end : EvaluateEnd) → IsExecuted line.statement state (Err end) session → StopsAt (stop_at line.number end) line state
 stops_at line state session (Fault kind) h = record { line_number = refl; fault = h }
 stops_at line state session NoMemory h = tt
+
+-- the same as the code sees the line
+pub stops_seen : (line : Line) (state : State) (session : Session) (end : EvaluateEnd) → IsExecuted (statement_of line.statement) state (Err end) session
+    → StopsAt (stop_at line.number end) (line_of line) state
+stops_seen line state session end h =
+    let l : LineTree = record { number = line.number; statement = statement_of line.statement } in
+    subst (λ (x : LineTree). StopsAt (stop_at line.number end) x state) (sym (line-Line line)) (stops_at l state session end h)

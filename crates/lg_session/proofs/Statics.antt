@@ -1,5 +1,5 @@
 -- What is known where there is no static fault.
-use Rattle.std.proofs.Common.{◌≡◌, ℕ, ◌<◌, ◌≤◌, Bool, true, false, not, nat_lt, ◌&&◌, List, [], ◌∷◌, Option, Some, None, Result, Ok, Err, inl, inr, ℤ, pos, refl, sym, ap, subst, ◌∙◌, arith}
+use Rattle.std.proofs.Common.{◌≡◌, ℕ, ◌<◌, ◌≤◌, Bool, true, false, not, nat_lt, ◌&&◌, List, [], ◌∷◌, Option, Some, None, Result, Ok, Err, ℤ, pos, refl, sym, ap, subst, ◌∙◌, arith}
 use Rattle.std.specs.Prelude.{if◌then◌else◌, int_le}
 use Rattle.std.specs.Option.{unwrap_or}
 use Rattle.std.specs.Result.{result_ok}
@@ -14,16 +14,16 @@ use Rattle.lg_elem.specs.declared.kinds.Compare.{Compare}
 use Rattle.lg_elem.specs.Types.{IsNumber, least, greatest}
 use Rattle.lg_elem.specs.Operations.{is_allowed_binary, is_allowed_unary}
 use Rattle.lg_promote.specs.Promotion.{common_type}
-use Rattle.lg_promote.specs.Laws.{HoldsAll, HoldsBoth}
+use Rattle.lg_promote.specs.Laws.{HoldsBoth}
 use Rattle.lg_shape.specs.Shapes.{size_of, joined_shape}
 use Rattle.lg_meaning.specs.declared.fault.FaultKind.{FaultKind}
 use Rattle.lg_meaning.specs.declared.fault.FaultKind.TheVariants.{TypeKind, Range, Shape, Limit}
 use Rattle.lg_meaning.specs.Weak as weak
-use Rattle.lg_meaning.specs.Weak.{Weak}
 use Rattle.lg_promote.specs.Literals.{is_number}
 use Rattle.lg_meaning.specs.Faults.{from_part, needing, or_fault}
 use Rattle.lg_meaning.specs.Memory.{ArrayKind, Right, writable}
-use Rattle.lg_meaning.specs.Static.{Static, weak_value, array_value, type_beside, type_alone, fits, both_fit, condition_fits, common, shape_of, are_within, MAX_SIZE, made, right_of, with_right, elementwise, binary_static, compare_static, unary_static, choose_static}
+use Rattle.lg_meaning.specs.Static.{Static, weak_value, array_value, type_beside, type_alone, fits, both_fit, common, shape_of, are_within, MAX_SIZE, made, right_of, with_right, elementwise}
+use Rattle.lg_meaning.specs.Operators.{condition_fits, binary_static, compare_static, unary_static, choose_static}
 use Rattle.lg_session.specs.Lending.{IsNumberOf, SpreadsTo}
 use Rattle.lg_session.proofs.Joins.{joined_spreads, joined_spreads_three, same_spreads, no_axes_spread}
 

@@ -1,28 +1,25 @@
 -- The session stands for the state of the definition after a statement.
-use Rattle.std.proofs.Common.{◌≡◌, ◌≢◌, ℕ, suc, zero, ◌<◌, Bool, true, false, cond, ◌⊎◌, inl, inr, ⊎_elim, List, [], ◌∷◌, ◌++◌, length, map, get_or, Option, None, Some, Result, Ok, Err, IsSomeAnd, option_map, refl, sym, ap, subst, ◌∙◌, ℤ, pos, bytes_eq, if◌then◌else◌, slice_get, arith}
+use Rattle.std.proofs.Common.{◌≡◌, ◌≢◌, ℕ, suc, zero, ◌<◌, Bool, true, false, cond, ◌⊎◌, ⊎_elim, List, [], ◌∷◌, ◌++◌, length, map, get_or, Option, None, Some, IsSomeAnd, option_map, refl, sym, ap, subst, ◌∙◌, ℤ, pos, bytes_eq, if◌then◌else◌, slice_get, arith}
 use Rattle.std.specs.List.{range_with_len}
-use Rattle.std.specs.Ordering.{nat_cmp}
-use Rattle.std.specs.Cmp.Lexicographic.{slice_cmp, nat_list_cmp_total, nat_list_eq_equiv}
+use Rattle.std.specs.Cmp.Lexicographic.{nat_list_cmp_total, nat_list_eq_equiv}
 use Rattle.std.specs.FinMap.{get, insert, get-insert}
 use Rattle.std.proofs.lemmas.List.FromFn.{fill_by_all, length-range_with_len}
 use Rattle.std.proofs.lemmas.Map.Text.{is_eq-slice_cmp}
-use Rattle.std.proofs.lemmas.Option.{same_Some, slice_get_within, slice_get_past}
+use Rattle.std.proofs.lemmas.Option.{slice_get_within, slice_get_past}
 use Rattle.lg_store.specs.declared.view.View.{View as CodeView}
 use Rattle.lg_shape.specs.Shapes.{size_of}
-use Rattle.lg_tree.specs.Tree.{Tree, name}
-use Rattle.lg_meaning.specs.declared.fault.FaultKind.{FaultKind}
+use Rattle.lg_tree.specs.Tree.{Tree}
 use Rattle.lg_meaning.specs.Weak as weak
 use Rattle.lg_meaning.specs.Memory.{Root, View, ArrayKind, Memory, State, Bound, array, numbers_of, whole_view}
 use Rattle.lg_meaning.specs.Memory as memory
-use Rattle.lg_meaning.specs.Static.{Static, weak_value, array_value, static_of, named}
-use Rattle.lg_meaning.specs.Value.{evaluated}
-use Rattle.lg_meaning.specs.Step.{rebound as rebound_state, rebound_as, newly_bound, value_bound, bound_to}
-use Rattle.lg_session.specs.Operations.{weak_of}
-use Rattle.lg_session.specs.Worlds.{Roots, Names, Place, number_at, shown_in, put, SameKind, SameBound, AtOneIndex, Linked, Stands, IsShown, IsInside, AreInside}
+use Rattle.lg_meaning.specs.Static.{Static, weak_value, array_value}
+use Rattle.lg_meaning.specs.Expressions.{evaluated}
+use Rattle.lg_meaning.specs.Sharing.{shared_view}
+use Rattle.lg_meaning.specs.Step.{rebound as rebound_state, newly_bound, bound_as, bound_to}
+use Rattle.lg_session.specs.Worlds.{Roots, Names, Place, number_at, shown_in, put, SameBound, Linked, Stands, IsInside, AreInside}
 use Rattle.lg_session.specs.Names.{view_of, bound_of, bound_at, environment}
-use Rattle.lg_session.specs.Stored.{IsWholeOf, IsHeld, AreHeld}
+use Rattle.lg_session.specs.Stored.{IsWholeOf, AreHeld}
 use Rattle.lg_session.specs.Standing.{Represents, roots_in, names_in}
-use Rattle.lg_session.specs.Values.{IsNoName}
 use Rattle.lg_session.proofs.Links.{number_kept, put_bound, put_linked, BoundLinked, rebound, freshly_bound, NoRepeat, range_place, range_no_repeat, linked_there}
 use Rattle.lg_session.proofs.HeldLemmas.{shown_whole}
 use Rattle.lg_session.specs.declared.names.Bound.{Bound as CodeBound}
@@ -204,30 +201,16 @@ module _ (A C : Roots) (old new : CodeNames) (state : State) (word : List ℕ) (
 
 -- ---- what an assignment binds
 
-name_or_not : (e : Tree) → ((v : List ℕ) × (e ≡ name v)) ⊎ IsNoName e
-name_or_not (name v) = inl (v, refl)
-name_or_not e = inr tt
+bound_by : (w : List ℕ) (e : Tree) (s : Static) (state : State) (o : Option View) → shared_view e state.names ≡ o
+    → bound_to w e s state ≡ bound_as w o s (evaluated e state.memory state.names).numbers state
+bound_by w e s state o is = ap (λ v. bound_as w v s (evaluated e state.memory state.names).numbers state) is
 
-bound_other : (w : List ℕ) (e : Tree) (s : Static) (state : State) → IsNoName e → bound_to w e s state ≡ value_bound w s (evaluated e state.memory state.names).numbers state
-bound_other w (name v) s state anew = absurd anew
-bound_other w e s state anew = refl
+pub bound_weak : (w : List ℕ) (e : Tree) (x : weak.Weak) (state : State) → shared_view e state.names ≡ None → bound_to w e (weak_value x) state ≡ rebound_state w (memory.weak x) state
+bound_weak w e x state none = bound_by w e (weak_value x) state None none
 
-named_weak : (o : Option Bound) (x : weak.Weak) → named o ≡ Ok (weak_value x) → o ≡ Some (memory.weak x)
-named_weak None x e = cc
-named_weak (Some (memory.weak y)) x e = let same : y ≡ x = cc in ap (λ z. Some (memory.weak z)) same
-named_weak (Some (array v)) x e = cc
+pub bound_shown : (w : List ℕ) (e : Tree) (s : Static) (state : State) (b : View) → shared_view e state.names ≡ Some b → bound_to w e s state ≡ rebound_state w (array b) state
+bound_shown w e s state b is = bound_by w e s state (Some b) is
 
-pub bound_weak : (w : List ℕ) (e : Tree) (x : weak.Weak) (state : State) → static_of e state.names ≡ Ok (weak_value x) → bound_to w e (weak_value x) state ≡ rebound_state w (memory.weak x) state
-bound_weak w e x state kind = ⊎_elim as_name (λ anew. bound_other w e (weak_value x) state anew) (name_or_not e)
-  where
-    as_name : (v : List ℕ) × (e ≡ name v) → bound_to w e (weak_value x) state ≡ rebound_state w (memory.weak x) state
-    as_name n =
-        ap (λ t. bound_to w t (weak_value x) state) n.1
-        ∙ ap (λ o. rebound_as w o state) (named_weak (get state.names n.0) x (sym (ap (λ t. static_of t state.names) n.1) ∙ kind))
-
-pub bound_shown : (w : List ℕ) (e : Tree) (s : Static) (state : State) (v : List ℕ) (b : View) → e ≡ name v → get state.names v ≡ Some (array b)
-    → bound_to w e s state ≡ rebound_state w (array b) state
-bound_shown w e s state v b is bound = ap (λ t. bound_to w t s state) is ∙ ap (λ o. rebound_as w o state) bound
-
-pub bound_fresh : (w : List ℕ) (e : Tree) (k : ArrayKind) (state : State) → IsNoName e → bound_to w e (array_value k) state ≡ newly_bound w k (evaluated e state.memory state.names).numbers state
-bound_fresh w e k state anew = bound_other w e (array_value k) state anew
+pub bound_fresh : (w : List ℕ) (e : Tree) (k : ArrayKind) (state : State) → shared_view e state.names ≡ None
+    → bound_to w e (array_value k) state ≡ newly_bound w k (evaluated e state.memory state.names).numbers state
+bound_fresh w e k state none = bound_by w e (array_value k) state None none

@@ -1,5 +1,5 @@
 -- What is evaluated tile after tile is what is evaluated at once.
-use Rattle.std.proofs.Common.{◌≡◌, ℕ, zero, suc, ◌+◌, ◌-◌, ◌*◌, ◌<◌, ◌≤◌, List, [], ◌∷◌, ◌++◌, length, map, take, slice_get, Option, Some, None, ℤ, refl, sym, ap, subst, ◌∙◌, arith, append_assoc}
+use Rattle.std.proofs.Common.{◌≡◌, ℕ, ◌+◌, ◌-◌, ◌*◌, ◌<◌, ◌≤◌, List, [], ◌∷◌, ◌++◌, length, map, take, slice_get, Option, Some, None, ℤ, refl, sym, ap, ◌∙◌}
 use Rattle.std.specs.List.{flat_map}
 use Rattle.std.proofs.lemmas.List.Concat.{flat_map-append}
 use Rattle.std.proofs.lemmas.List.{append-nil, map-append, length-map, take_all}
@@ -7,10 +7,8 @@ use Rattle.std.specs.Option.{IsSomeAnd}
 use Rattle.lg_elem.specs.declared.dtype.DType.{DType}
 use Rattle.lg_elem.specs.declared.kinds.Flag.{Flag}
 use Rattle.lg_elem.specs.declared.kinds.Flag.TheVariants.{Clear, Divisor, Power}
-use Rattle.lg_space.specs.Rectangle.{IsIn, combinations, indices, volume_of}
-use Rattle.lg_space.specs.Partition.{LieWithin}
+use Rattle.lg_space.specs.Rectangle.{indices, volume_of}
 use Rattle.lg_space.proofs.Places.{volume_counts}
-use Rattle.lg_shape.specs.Shapes.{whole}
 use Rattle.lg_part.proofs.Grids.{take_one_more}
 use Rattle.lg_tile.specs.declared.any_tile.AnyTile.{AnyTile}
 use Rattle.lg_tile.specs.Sections.{Covers}
@@ -19,7 +17,7 @@ use Rattle.lg_map.specs.declared.operation.Operand.{Operand}
 use Rattle.lg_map.specs.declared.operation.Operand.TheVariants.{Input, Constant}
 use Rattle.lg_map.specs.declared.operation.MapOp.{MapOp}
 use Rattle.lg_map.specs.declared.operation.MapOp.TheVariants as ops
-use Rattle.lg_map.specs.Mapping.{IsMap, IsOperand, HasInput, first_flag, map_value, map_values, map_flag, map_flags}
+use Rattle.lg_map.specs.Mapping.{IsMap, IsOperand, first_flag, map_value, map_values, map_flag, map_flags}
 
 -- ---- part of a rectangle
 

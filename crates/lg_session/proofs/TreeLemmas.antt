@@ -1,13 +1,15 @@
 -- How each form of an expression is seen, and what is known of its parts.
-use Rattle.std.proofs.Common.{◌≡◌, List, Option, Result, Ok, map, rules, sym, subst, option_map}
+use Rattle.std.proofs.Common.{◌≡◌, ℕ, List, Option, Result, map, rules, sym, subst, option_map}
 use Rattle.lg_elem.specs.declared.dtype.DType.{DType}
 use Rattle.lg_elem.specs.declared.kinds.Compare.{Compare as CompareKind}
 use Rattle.lg_tree.specs.declared.kinds.Arith.{Arith as ArithKind}
-use Rattle.lg_tree.specs.Tree.{Tree, arith, compare, full, zeros, ones, arange, array, minimum, maximum, choose, leaf, list}
-use Rattle.lg_tree.specs.View.{tree_of, list_of, shape_of, maybe_tree, list_trees}
+use Rattle.lg_tree.specs.Tree.{Tree, arith, compare, full, zeros, ones, arange, array, minimum, maximum, choose, one, tuple, leaf, list, bind, print}
+use Rattle.lg_tree.specs.View.{tree_of, trees, list_of, shape_of, maybe_tree, list_trees, statement_of}
 use Rattle.lg_tree.specs.declared.trees.Expr.{Expr, Arith, Compare, Full, Zeros, Ones, Arange, Array, Minimum, Maximum, Where, the_lemmas}
-use Rattle.lg_tree.specs.declared.trees.ShapeExpr.{ShapeExpr}
+use Rattle.lg_tree.specs.declared.trees.ShapeExpr.{ShapeExpr, One, Tuple}
 use Rattle.lg_tree.specs.declared.trees.ListExpr.{ListExpr, Leaf, List as Listed}
+use Rattle.lg_tree.specs.declared.trees.Statement.{Bind, Print}
+use Rattle.lg_tree.specs.declared.trees.Statement as statement
 use Rattle.lg_meaning.specs.Memory.{State}
 use Rattle.lg_session.specs.Values.{Means, IsOutcome}
 use Rattle.lg_session.specs.declared.operations.end.EvaluateEnd.{EvaluateEnd}
@@ -44,11 +46,23 @@ tree-Array l t = search (rules, the_lemmas)
 pub tree-Arange : (m : Option Expr) (b : Expr) (t : Option DType) → tree_of (Arange m b t) ≡ arange (maybe_tree (option_map tree_of m)) (tree_of b) t
 tree-Arange m b t = search (rules, the_lemmas)
 
+pub shape-One : (e : Expr) → shape_of (One e) ≡ one (tree_of e)
+shape-One e = search (rules, the_lemmas)
+
+pub shape-Tuple : (es : List Expr) → shape_of (Tuple es) ≡ tuple (trees (map tree_of es))
+shape-Tuple es = search (rules, the_lemmas)
+
 pub tree-Leaf : (e : Expr) → list_of (Leaf e) ≡ leaf (tree_of e)
 tree-Leaf e = search (rules, the_lemmas)
 
 pub tree-List : (ls : List ListExpr) → list_of (Listed ls) ≡ list (list_trees (map list_of ls))
 tree-List ls = search (rules, the_lemmas)
+
+pub statement-Bind : (w : List ℕ) (e : Expr) → statement_of (Bind w e) ≡ bind w (tree_of e)
+statement-Bind w e = search (rules, statement.the_lemmas)
+
+pub statement-Print : (e : Expr) → statement_of (Print e) ≡ print (tree_of e)
+statement-Print e = search (rules, statement.the_lemmas)
 
 module _ (state : State) (session : Session) where
   pub means_of : (x l : Expr) (p : Value) → x ≡ l → Means (tree_of x) state session p → Means (tree_of l) state session p

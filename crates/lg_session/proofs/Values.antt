@@ -12,7 +12,7 @@ use Rattle.lg_elem.specs.declared.kinds.Compare.{Compare}
 use Rattle.lg_elem.specs.Types.{IsNumber, wrap}
 use Rattle.lg_elem.specs.Operations.{is_zero, unary_of, value_of, flag_of, compare_of}
 use Rattle.lg_elem.proofs.WrapLemmas.{wrap_same}
-use Rattle.lg_space.specs.Rectangle.{IsIn, indices}
+use Rattle.lg_space.specs.Rectangle.{IsIn}
 use Rattle.lg_space.proofs.Places.{stands_once}
 use Rattle.lg_shape.specs.Shapes.{whole, places}
 use Rattle.lg_tile.specs.declared.any_tile.AnyTile.{AnyTile}
@@ -24,12 +24,11 @@ use Rattle.std.specs.Option.{unwrap_or}
 use Rattle.std.proofs.lemmas.Option.{unwrap_or-slice_get}
 use Rattle.lg_shape.specs.Shapes.{size_of, place_of, aligned}
 use Rattle.lg_session.proofs.Spreads.{aligned_same}
-use Rattle.lg_map.specs.declared.operation.Operand.TheVariants.{Input, Constant}
 use Rattle.lg_map.specs.declared.operation.MapOp.TheVariants as ops
 use Rattle.lg_map.specs.Mapping.{HasInput, IsOperand, first_flag, operand_at, input_at, map_values, map_flags}
-use Rattle.lg_meaning.specs.declared.fault.FaultKind.{FaultKind}
 use Rattle.lg_meaning.specs.Faults.{first_fault}
-use Rattle.lg_meaning.specs.Value.{Value, spread, flagged, binary_fault, chosen}
+use Rattle.lg_meaning.specs.Value.{Value, spread}
+use Rattle.lg_meaning.specs.Operators.{flagged, binary_fault, chosen}
 use Rattle.lg_session.specs.declared.operations.lending.Lent.{Lent}
 use Rattle.lg_session.specs.declared.operations.lending.Lent.TheVariants.{Number, Tile, Repeated}
 use Rattle.lg_session.specs.Lending.{Lends, IsLentOver, lent_at, spread_at, tile_in, operand_in, inputs_of}

@@ -1,20 +1,20 @@
 -- Arrays that a script writes.
-use Rattle.std.proofs.Common.{◌≡◌, ℕ, zero, suc, ◌+◌, ◌-◌, ◌*◌, ◌<◌, ◌≤◌, Bool, true, false, ◌&&◌, List, [], ◌∷◌, ◌++◌, length, map, take, replicate, get_or, slice_get, inl, inr, Option, Some, None, Result, Ok, Err, ℤ, pos, ◌+ℤ◌, ◌-ℤ◌, ◌<ℤ◌, refl, sym, ap, subst, ◌∙◌, arith}
-use Rattle.std.specs.Prelude.{if◌then◌else◌, int_lt, int_le, unsigned_abs, slice_index}
-use Rattle.std.specs.List.{All, range_with_len, flat_map}
+use Rattle.std.proofs.Common.{◌≡◌, ℕ, ◌+◌, ◌-◌, ◌*◌, ◌<◌, ◌≤◌, Bool, true, false, ◌&&◌, List, [], ◌∷◌, ◌++◌, length, map, take, replicate, get_or, slice_get, inl, inr, Option, Some, None, Result, Ok, Err, ℤ, pos, ◌+ℤ◌, ◌-ℤ◌, ◌<ℤ◌, refl, sym, ap, subst, ◌∙◌, arith}
+use Rattle.std.specs.Prelude.{if◌then◌else◌, int_lt, unsigned_abs, slice_index}
+use Rattle.std.specs.List.{All, range_with_len}
 use Rattle.std.specs.Option.{IfSome, option_copied, unwrap_or}
 use Rattle.std.proofs.Common.{Bor}
 use Rattle.std.proofs.lemmas.Int.{ints}
-use Rattle.std.proofs.lemmas.List.{map-append, length-map, take_more, take_all}
+use Rattle.std.proofs.lemmas.List.{map-append, take_more}
 use Rattle.std.proofs.lemmas.List.FromFn.{length-range_with_len, get_or-range_with_len}
 use Rattle.std.proofs.lemmas.Option.{get_or_from_slice_get, slice_get_past}
 use Rattle.std.proofs.lemmas.Bool.{cases_lt}
 use Rattle.std.proofs.lemmas.List.Elements.{All-nil, All-cons, All-head, All-tail}
 use Rattle.lg_elem.specs.declared.dtype.DType.{DType}
 use Rattle.lg_elem.specs.declared.dtype.DType.TheVariants.{Bool as Truth, Int8, Int16, Int32, Int64, UInt8, UInt16, UInt32, UInt64}
-use Rattle.lg_elem.specs.Types.{IsNumber, wrap, least, greatest}
+use Rattle.lg_elem.specs.Types.{IsNumber, wrap}
 use Rattle.lg_elem.proofs.WrapLemmas.{wrap_same}
-use Rattle.lg_space.specs.Rectangle.{indices, volume_of}
+use Rattle.lg_space.specs.Rectangle.{indices}
 use Rattle.lg_space.proofs.Places.{volume_counts}
 use Rattle.lg_shape.specs.Shapes.{whole, places, place_of, size_of}
 use Rattle.lg_tile.proofs.SectionLemmas.{map_along}
@@ -28,7 +28,8 @@ use Rattle.lg_meaning.specs.Weak.{Weak, number_of}
 use Rattle.lg_promote.specs.Literals.{is_number}
 use Rattle.lg_meaning.specs.Faults.{needing}
 use Rattle.lg_meaning.specs.Memory.{ArrayKind, writable}
-use Rattle.lg_meaning.specs.Static.{Static, array_value, made, are_truths, are_literals, is_literal, arange_static}
+use Rattle.lg_meaning.specs.Static.{Static, array_value, made}
+use Rattle.lg_meaning.specs.Creation.{are_truths, are_literals, is_literal, arange_static}
 use Rattle.lg_meaning.specs.Value.{Value}
 use Rattle.lg_session.specs.declared.operations.values.Weak.{Weak as CodeWeak}
 use Rattle.lg_session.specs.declared.operations.values.Fresh.{Fresh}

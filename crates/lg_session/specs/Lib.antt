@@ -13,3 +13,4 @@ pub mod Ruling
 pub mod Cutting
 pub mod Lending
 pub mod Ends
+pub mod Built

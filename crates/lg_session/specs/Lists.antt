@@ -6,8 +6,8 @@ use Rattle.lg_meaning.specs.declared.fault.FaultKind.TheVariants.{TypeKind}
 use Rattle.lg_meaning.specs.Faults.{from_both}
 use Rattle.lg_meaning.specs.Memory.{State}
 use Rattle.lg_meaning.specs.Weak.{Weak, number_of}
-use Rattle.lg_meaning.specs.Static.{Static, weaks, list_static}
-use Rattle.lg_meaning.specs.Value.{list_numbers}
+use Rattle.lg_meaning.specs.Static.{Static, weaks}
+use Rattle.lg_meaning.specs.Expressions.{list_static, list_numbers}
 use Rattle.lg_session.specs.Operations.{weak_of}
 use Rattle.lg_session.specs.declared.lists.Members.{Members}
 use Rattle.lg_session.specs.declared.operations.end.EvaluateEnd.{EvaluateEnd}

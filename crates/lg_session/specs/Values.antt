@@ -1,20 +1,23 @@
 -- What the evaluation of an expression answers.
-use Rattle.std.specs.Prelude.{◌≡◌, ℕ, List, [], ◌∷◌, Some, Result, Ok, Err, ⊤, pos}
+use Rattle.std.specs.Prelude.{◌≡◌, List, [], ◌∷◌, map, None, Some, Result, Ok, Err, ⊤, ℤ, pos, Vec}
+use Rattle.std.specs.declared.alloc.Global.{Global}
 use Rattle.lg_store.specs.declared.view.View.{View as CodeView}
-use Rattle.lg_tree.specs.Tree.{Tree, name, MaybeTree, no_tree, some_tree, ShapeTree, one}
+use Rattle.lg_tree.specs.Tree.{Tree, MaybeTree, no_tree, some_tree, ShapeTree}
 use Rattle.lg_meaning.specs.declared.fault.FaultKind.{FaultKind}
 use Rattle.lg_meaning.specs.Weak as meaning_weak
 use Rattle.lg_meaning.specs.Weak.{number_of}
-use Rattle.lg_meaning.specs.Memory.{ArrayKind, View, State, array}
-use Rattle.lg_meaning.specs.Static.{Static, weak_value, array_value, static_of}
+use Rattle.lg_meaning.specs.Memory.{ArrayKind, View, State}
+use Rattle.lg_meaning.specs.Static.{Static, weak_value, array_value, integers}
+use Rattle.lg_meaning.specs.Expressions.{static_of, shape_static, evaluated}
+use Rattle.lg_meaning.specs.Sharing.{shared_view}
 use Rattle.lg_meaning.specs.Value as meaning
-use Rattle.lg_meaning.specs.Value.{plain, evaluated}
+use Rattle.lg_meaning.specs.Value.{plain}
 use Rattle.lg_session.specs.Operations.{weak_of, fresh_kind, fresh_value, IsRanged, IsWhole, IsArrayOf}
-use Rattle.lg_session.specs.Worlds.{Roots, Names, shown_in, IsShown}
+use Rattle.lg_session.specs.Worlds.{Roots, Names, shown_in, IsShown, IsInside}
 use Rattle.lg_session.specs.Names.{view_of, environment}
 use Rattle.lg_session.specs.Roots.{contents}
 use Rattle.lg_session.specs.Stored.{IsHeld}
-use Rattle.lg_session.specs.Standing.{names_in}
+use Rattle.lg_session.specs.Standing.{roots_in, names_in}
 use Rattle.lg_session.specs.declared.operations.end.EvaluateEnd.{EvaluateEnd}
 use Rattle.lg_session.specs.declared.operations.end.EvaluateEnd.TheVariants.{Fault, NoMemory}
 use Rattle.lg_session.specs.declared.operations.values.Weak.{Weak as CodeWeak}
@@ -60,23 +63,18 @@ IsWeakAnswer weak (Err NoMemory) = ⊥
 
 -- ---- the value of an expression
 
--- the expression is a name that stands for what the view shows
-pub record IsNamed (e : Tree) (state : State) (names : Names) (view : View) : Type 0 where
-  pub word : List ℕ
-  pub is : e ≡ name word
+-- the expression is a view of a root that a name reaches, and this one shows what that one shows
+pub record IsShared (e : Tree) (state : State) (names : Names) (view : View) : Type 0 where
   pub there : View
-  pub bound : names_in state word ≡ Some (array there)
+  pub is : shared_view e state.names ≡ Some there
+  pub inside : IsInside (roots_in state) there
   pub shown : IsShown names (names_in state) view there
 
-abbrev pub IsNoName : Tree → Type 0
-IsNoName (name word) = ⊥
-IsNoName e = ⊤
-
--- a view is shared with a name, and any other array is new
+-- a view is shared with a name, and any other value with none
 abbrev pub ComesFrom : Tree → State → Names → Value → Type 0
-ComesFrom e state names (Weak w) = ⊤
-ComesFrom e state names (Shown view) = IsNamed e state names (view_of view)
-ComesFrom e state names (Fresh fresh) = IsNoName e
+ComesFrom e state names (Weak w) = shared_view e state.names ≡ None
+ComesFrom e state names (Shown view) = IsShared e state names (view_of view)
+ComesFrom e state names (Fresh fresh) = shared_view e state.names ≡ None
 
 -- the expression has no static fault and this value
 pub record Means (e : Tree) (state : State) (session : Session) (value : Value) : Type 0 where
@@ -90,12 +88,21 @@ IsOutcome e state session (Ok value) = Means e state session value
 IsOutcome e state session (Err (Fault kind)) = static_of e state.names ≡ Err kind
 IsOutcome e state session (Err NoMemory) = ⊤
 
--- the same of a bound that may be left out, and of an extent
+-- the same of a bound that may be left out
 abbrev pub IsFirstBound : MaybeTree → State → Session → Result Value EvaluateEnd → Type 0
 IsFirstBound no_tree state session (Ok value) = value ≡ Weak (Integer (pos 0))
 IsFirstBound no_tree state session (Err (Fault kind)) = ⊥
 IsFirstBound no_tree state session (Err NoMemory) = ⊤
 IsFirstBound (some_tree e) state session result = IsOutcome e state session result
 
-abbrev pub IsExtent : ShapeTree → State → Session → Result Value EvaluateEnd → Type 0
-IsExtent (one e) = IsOutcome e
+-- the answer is the extents of a shape, or its first static fault
+abbrev pub AreExtents : ShapeTree → State → Result (Vec Value Global) EvaluateEnd → Type 0
+AreExtents s state (Ok values) = shape_static s state.names ≡ Ok (map value_static values.items)
+AreExtents s state (Err (Fault kind)) = shape_static s state.names ≡ Err kind
+AreExtents s state (Err NoMemory) = ⊤
+
+-- the answer is these values as whole numbers, or the fault that one of them is none
+abbrev pub AreIntegers : List Value → Result (Vec ℤ Global) EvaluateEnd → Type 0
+AreIntegers values (Ok numbers) = integers (map value_static values) ≡ Ok numbers.items
+AreIntegers values (Err (Fault kind)) = integers (map value_static values) ≡ Err kind
+AreIntegers values (Err NoMemory) = ⊤

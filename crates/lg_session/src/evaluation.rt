@@ -1,13 +1,14 @@
 //! The walk over an expression: each part is evaluated once, from left to right, and then the
 //! operation on the parts.
-ghost use Rattle.std.specs.Prelude.{◌≡◌, ◌+◌, length, IfOk, OnOk, option_map};
+ghost use Rattle.std.specs.Prelude.{◌≡◌, ◌+◌, true, length, IfOk, OnOk, option_map};
 ghost use Rattle.lg_tree.specs.Tree.{name as name_tree};
 ghost use Rattle.lg_tree.specs.View.{tree_of, list_of, shape_of, maybe_tree};
 ghost use Rattle.lg_meaning.specs.Memory.{State};
 ghost use Rattle.lg_session.specs.Roots.{contents};
 ghost use Rattle.lg_session.specs.Standing.{StandsFor};
-ghost use Rattle.lg_session.specs.Values.{IsUsable, IsOutcome, IsFirstBound, IsExtent};
+ghost use Rattle.lg_session.specs.Values.{IsUsable, IsOutcome, IsFirstBound, AreExtents};
 ghost use Rattle.lg_session.specs.Lists.{leaves, IsGathered};
+ghost use Rattle.lg_session.specs.Built.{is_built_tree, is_built_maybe, is_built_shape, is_built_list};
 
 use crate::forms::{
     arithmetic, array_of_ones, array_of_zeros, choice, comparison, counted_array, full_array,
@@ -31,6 +32,7 @@ use std::alloc::Global;
 /// The expression's first static fault, and `NoMemory`.
 #[cycle(walk)]
 pub(crate) fn evaluate(alloc: Global, session: &Session, value: &Expr) -> Result<Value, EvaluateEnd>
+    requires { is_built_tree (tree_of value.now) ≡ true }
     ensures usable { IfOk result (IsUsable (contents session.now.roots)) }
     ensures outcome { (state : State) → StandsFor session.now state
         → IsOutcome (tree_of value.now) state session.now result }
@@ -78,17 +80,17 @@ pub(crate) fn evaluate(alloc: Global, session: &Session, value: &Expr) -> Result
             choice(alloc, session, &condition, &a, &b)
         }
         Expr::Full(shape, x, dtype) => {
-            let extent = evaluate_extent(alloc, session, shape)?;
+            let extents = evaluate_extents(alloc, session, shape)?;
             let x = evaluate(alloc, session, x.get())?;
-            full_array(alloc, session, &extent, &x, *dtype)
+            full_array(alloc, session, &extents, &x, *dtype)
         }
         Expr::Zeros(shape, dtype) => {
-            let extent = evaluate_extent(alloc, session, shape)?;
-            array_of_zeros(alloc, session, &extent, *dtype)
+            let extents = evaluate_extents(alloc, session, shape)?;
+            array_of_zeros(alloc, session, &extents, *dtype)
         }
         Expr::Ones(shape, dtype) => {
-            let extent = evaluate_extent(alloc, session, shape)?;
-            array_of_ones(alloc, session, &extent, *dtype)
+            let extents = evaluate_extents(alloc, session, shape)?;
+            array_of_ones(alloc, session, &extents, *dtype)
         }
         Expr::Arange(from, to, dtype) => {
             let from = evaluate_first_bound(alloc, session, from)?;
@@ -101,6 +103,19 @@ pub(crate) fn evaluate(alloc: Global, session: &Session, value: &Expr) -> Result
             let shape = list_shape(alloc, list)?;
             listed_array(alloc, session, &members, shape, *dtype)
         }
+        Expr::MatMul(_, _)
+        | Expr::Index(_, _)
+        | Expr::Reduce(_, _, _)
+        | Expr::Take(_, _, _)
+        | Expr::Transpose(_, _)
+        | Expr::BroadcastTo(_, _)
+        | Expr::Stencil(_, _)
+        | Expr::Copy(_)
+        | Expr::Flatten(_)
+        | Expr::AsType(_, _)
+        | Expr::Reshape(_, _)
+        | Expr::Apply(_, _, _)
+        | Expr::Scan(_, _, _) => unreachable!(),
     }
 }
 
@@ -111,6 +126,7 @@ fn evaluate_first_bound(
     session: &Session,
     from: &Option<Boxed<Expr>>,
 ) -> Result<Value, EvaluateEnd>
+    requires { is_built_maybe (maybe_tree (option_map tree_of from.now)) ≡ true }
     ensures usable { IfOk result (IsUsable (contents session.now.roots)) }
     ensures outcome { (state : State) → StandsFor session.now state
         → IsFirstBound (maybe_tree (option_map tree_of from.now)) state session.now result }
@@ -121,30 +137,45 @@ fn evaluate_first_bound(
     }
 }
 
-// The one extent of a shape.
+// The extents of a shape, in the order in which they are written.
 #[cycle(walk)]
-fn evaluate_extent(
+#[tactic(auto, using(crate::proofs::BuiltLemmas::tree_built_at))]
+fn evaluate_extents(
     alloc: Global,
     session: &Session,
     shape: &ShapeExpr,
-) -> Result<Value, EvaluateEnd>
-    ensures usable { IfOk result (IsUsable (contents session.now.roots)) }
-    ensures outcome { (state : State) → StandsFor session.now state
-        → IsExtent (shape_of shape.now) state session.now result }
+) -> Result<Vec<Value>, EvaluateEnd>
+    requires { is_built_shape (shape_of shape.now) ≡ true }
+    ensures { (state : State) → StandsFor session.now state
+        → AreExtents (shape_of shape.now) state result }
 {
+    let mut extents = Vec::new(alloc);
     match shape {
-        ShapeExpr::One(extent) => evaluate(alloc, session, extent.get()),
+        ShapeExpr::One(extent) => {
+            let extent = evaluate(alloc, session, extent.get())?;
+            extents.push(extent)?;
+            Ok(extents)
+        }
+        ShapeExpr::Tuple(parts) => {
+            for part in parts.as_slice() {
+                let extent = evaluate(alloc, session, part)?;
+                extents.push(extent)?;
+            }
+            Ok(extents)
+        }
     }
 }
 
 // The values that stand in a list, in the order in which they are written.
 #[cycle(walk)]
+#[tactic(auto, using(crate::proofs::BuiltLemmas::list_built_at))]
 fn gather(
     alloc: Global,
     session: &Session,
     list: &ListExpr,
     members: &mut Members,
 ) -> Result<(), EvaluateEnd>
+    requires { is_built_list (list_of list.now) ≡ true }
     ensures count { OnOk result (length members.new.weaks.items
         ≡ length members.old.weaks.items + leaves (list_of list.now)) }
     ensures gathered { (state : State) → StandsFor session.now state

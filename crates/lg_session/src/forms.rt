@@ -6,11 +6,13 @@ ghost use Rattle.lg_meaning.specs.Faults.{from_both, from_part};
 ghost use Rattle.lg_meaning.specs.Weak.{number_of};
 ghost use Rattle.lg_shape.specs.Shapes.{size_of};
 ghost use Rattle.lg_session.specs.Lists.{gathered};
-ghost use Rattle.lg_meaning.specs.Static.{arith_static, compare_static, neg_static, unary_static, binary_static, choose_static, full_static, shaped, arange_static, integers, integer_of, weak_of as weak_part, type_or, array_static, list_type, operation as operation_of};
-ghost use Rattle.lg_meaning.specs.Value.{binary_value, compare_value, unary_value, choose_value, filled, counted as counted_from, listed as listed_as, only};
+ghost use Rattle.lg_meaning.specs.Static.{integers as integers_of, integer_of, weak_of as weak_part};
+ghost use Rattle.lg_meaning.specs.Operators.{arith_static, compare_static, neg_static, unary_static, binary_static, choose_static, operation as operation_of, binary_value, compare_value, unary_value, choose_value};
+ghost use Rattle.lg_meaning.specs.Creation.{full_static, shaped, arange_static, type_or, array_static, list_type, filled, counted as counted_from, listed as listed_as};
+ghost use Rattle.lg_meaning.specs.Value.{only};
 ghost use Rattle.lg_session.specs.Operations.{weak_answer, weak_of, IsRanged};
 ghost use Rattle.lg_session.specs.Roots.{contents};
-ghost use Rattle.lg_session.specs.Values.{value_static, value_in, IsUsable, IsComputed, IsWeakAnswer};
+ghost use Rattle.lg_session.specs.Values.{value_static, value_in, AreIntegers, IsUsable, IsComputed, IsWeakAnswer};
 
 use crate::lists::Members;
 use crate::operations::{
@@ -139,59 +141,56 @@ pub(crate) fn choice(
     Ok(Value::Fresh(choose(alloc, session.pieces, &condition, &a, &b)?))
 }
 
-/// `full(extent, x, type)`
+/// `full(shape, x, type)`
 pub(crate) fn full_array(
     alloc: Global,
     session: &Session,
-    extent: &Value,
+    extents: &[Value],
     x: &Value,
     dtype: Option<DType>,
 ) -> Result<Value, EvaluateEnd>
-    requires extent { IsUsable (contents session.now.roots) extent.now }
-    requires number { IsUsable (contents session.now.roots) x.now }
+    requires { IsUsable (contents session.now.roots) x.now }
     ensures usable { IfOk result (IsUsable (contents session.now.roots)) }
     ensures computed { IsComputed
-        (from_both (integers (value_static extent.now ∷ [])) (weak_part (value_static x.now))
+        (from_both (integers_of (map value_static extents.now)) (weak_part (value_static x.now))
         (λ xs w. full_static xs w dtype))
         (filled (only (value_in (contents session.now.roots) x.now))) result }
 {
-    let extent = integer(extent)?;
+    let extents = integers(alloc, extents)?;
     let x = weak(x)?;
-    Ok(Value::Fresh(full(alloc, session.pieces, &[extent], x, dtype)?))
+    Ok(Value::Fresh(full(alloc, session.pieces, &extents, x, dtype)?))
 }
 
-/// `zeros(extent, type)`
+/// `zeros(shape, type)`
 pub(crate) fn array_of_zeros(
     alloc: Global,
     session: &Session,
-    extent: &Value,
+    extents: &[Value],
     dtype: Option<DType>,
 ) -> Result<Value, EvaluateEnd>
-    requires { IsUsable (contents session.now.roots) extent.now }
     ensures usable { IfOk result (IsUsable (contents session.now.roots)) }
     ensures computed { IsComputed
-        (from_part (integers (value_static extent.now ∷ [])) (shaped (type_or dtype Int64)))
+        (from_part (integers_of (map value_static extents.now)) (shaped (type_or dtype Int64)))
         (filled (pos 0)) result }
 {
-    let extent = integer(extent)?;
-    Ok(Value::Fresh(zeros(alloc, session.pieces, &[extent], dtype)?))
+    let extents = integers(alloc, extents)?;
+    Ok(Value::Fresh(zeros(alloc, session.pieces, &extents, dtype)?))
 }
 
-/// `ones(extent, type)`
+/// `ones(shape, type)`
 pub(crate) fn array_of_ones(
     alloc: Global,
     session: &Session,
-    extent: &Value,
+    extents: &[Value],
     dtype: Option<DType>,
 ) -> Result<Value, EvaluateEnd>
-    requires { IsUsable (contents session.now.roots) extent.now }
     ensures usable { IfOk result (IsUsable (contents session.now.roots)) }
     ensures computed { IsComputed
-        (from_part (integers (value_static extent.now ∷ [])) (shaped (type_or dtype Int64)))
+        (from_part (integers_of (map value_static extents.now)) (shaped (type_or dtype Int64)))
         (filled (pos 1)) result }
 {
-    let extent = integer(extent)?;
-    Ok(Value::Fresh(ones(alloc, session.pieces, &[extent], dtype)?))
+    let extents = integers(alloc, extents)?;
+    Ok(Value::Fresh(ones(alloc, session.pieces, &extents, dtype)?))
 }
 
 /// `arange(from, to, type)`
@@ -235,6 +234,18 @@ pub(crate) fn listed_array(
         return Err(EvaluateEnd::Fault(FaultKind::TypeKind));
     }
     Ok(Value::Fresh(listed(alloc, session.pieces, &members.weaks, lent(&shape), dtype)?))
+}
+
+// Values as numbers that are extents.
+fn integers(alloc: Global, values: &[Value]) -> Result<Vec<i128>, EvaluateEnd>
+    ensures { AreIntegers values.now result }
+{
+    let mut numbers = Vec::new(alloc);
+    for value in values {
+        let number = integer(value)?;
+        numbers.push(number)?;
+    }
+    Ok(numbers)
 }
 
 /// A value as a number that is an extent or a bound: no truth value, and no array.

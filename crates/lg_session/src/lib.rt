@@ -2,7 +2,9 @@
 //! statement after another.
 #![tactic(auto)]
 
+mod built;
 mod evaluation;
+mod examples;
 mod forms;
 mod lists;
 mod names;
@@ -12,4 +14,6 @@ mod session;
 mod text;
 mod value;
 
+pub use built::{first_unbuilt, is_built};
+pub use examples::built_by_example;
 pub use session::{Session, Stop, StopEnd};

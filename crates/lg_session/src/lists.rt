@@ -2,7 +2,8 @@
 ghost use Rattle.std.specs.Prelude.{◌≡◌, ◌+◌, [], ◌∷◌, length, Ok, All, IfOk, OnOk, option_map};
 ghost use Rattle.std.proofs.Props.{props};
 ghost use Rattle.lg_tree.specs.View.{list_of};
-ghost use Rattle.lg_meaning.specs.Static.{list_shape as shape_of_list, weaks};
+ghost use Rattle.lg_meaning.specs.Static.{weaks};
+ghost use Rattle.lg_meaning.specs.Creation.{list_shape as shape_of_list};
 ghost use Rattle.lg_session.specs.ListShapes.{is_alike as is_alike_shape};
 ghost use Rattle.lg_session.specs.Operations.{weak_of, IsRanged};
 ghost use Rattle.lg_session.specs.Roots.{contents};

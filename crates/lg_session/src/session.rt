@@ -1,4 +1,4 @@
-ghost use Rattle.std.specs.Prelude.{◌≡◌, ◌≤◌, ℕ, List, [], Some, false, OnOk, OnErr, IfOk, IfErr, IsOk, is_err, bytes_eq, if◌then◌else◌};
+ghost use Rattle.std.specs.Prelude.{◌≡◌, ◌≤◌, ℕ, List, [], Some, true, false, OnOk, OnErr, IfOk, IfErr, IsOk, is_err, bytes_eq, if◌then◌else◌};
 ghost use Rattle.std.proofs.Props.{props};
 ghost use Rattle.lg_tile.specs.Tiles.{numbers};
 ghost use Rattle.lg_tree.specs.Tree.{Tree};
@@ -70,6 +70,7 @@ pub enum StopEnd {
 
 impl Session {
     ghost use Rattle.lg_session.specs.Standing.{StandsFor};
+    ghost use Rattle.lg_session.specs.Built.{is_built, is_built_tree};
     ghost use Rattle.lg_session.specs.Session.{Performs, StopsAt, IsExecuted, IsBound, IsText, IsTidyAt, is_spent, pieces_of};
     ghost use Rattle.lg_session.specs.Values.{value_static, value_in, IsUsable, Means};
 
@@ -107,7 +108,8 @@ impl Session {
     /// The statement's fault, with the number of its line, and `NoMemory`. The session is then
     /// spent.
     pub fn step(&mut self, alloc: Global, line: &Line) -> Result<Vec<u8>, Stop>
-        requires { is_spent self.old ≡ false }
+        requires going { is_spent self.old ≡ false }
+        requires built { is_built (line_of line.now).statement ≡ true }
         ensures done { IfOk result (λ text. (state : State) → StandsFor self.old state →
             Performs (line_of line.now) state text.items self.new) }
         ensures stopped { IfErr result (λ stop. (state : State) → StandsFor self.old state
@@ -131,6 +133,7 @@ impl Session {
 
     // Performs a statement, and gives the text that it prints.
     fn execute(&mut self, alloc: Global, statement: &Statement) -> Result<Vec<u8>, EvaluateEnd>
+        requires { is_built (statement_of statement.now) ≡ true }
         ensures outcome { (state : State) → StandsFor self.old state
             → IsExecuted (statement_of statement.now) state result self.new }
         ensures tidy { (root : ℕ) → IsTidyAt self.old root → IsTidyAt self.new root }
@@ -143,11 +146,18 @@ impl Session {
                 Ok(Vec::new(alloc))
             }
             Statement::Print { value } => self.print(alloc, value),
+            Statement::Update { .. }
+            | Statement::Put { .. }
+            | Statement::UpdateAt { .. }
+            | Statement::For { .. }
+            | Statement::Load { .. }
+            | Statement::Save { .. } => unreachable!(),
         }
     }
 
     // What `print` writes of an expression.
     fn print(&self, alloc: Global, value: &Expr) -> Result<Vec<u8>, EvaluateEnd>
+        requires { is_built_tree (tree_of value.now) ≡ true }
         ensures { (state : State) → StandsFor self.now state
             → IsText (tree_of value.now) state result }
     {
@@ -157,6 +167,7 @@ impl Session {
 
     // Lets a name stand for the value of an expression, which is computed first.
     fn assign(&mut self, alloc: Global, word: &[u8], value: &Expr) -> Result<(), EvaluateEnd>
+        requires { is_built_tree (tree_of value.now) ≡ true }
         ensures outcome { (state : State) → StandsFor self.old state
             → IsBound word.now (tree_of value.now) state self.new result }
         ensures tidy { (root : ℕ) → IsTidyAt self.old root → IsTidyAt self.new root }

@@ -1,2 +1,5 @@
+pub mod HeadView
+pub mod Heads
+pub mod Measures
 pub mod Tree
 pub mod View

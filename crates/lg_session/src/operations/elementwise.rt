@@ -1,7 +1,7 @@
 ghost use Rattle.std.specs.Prelude.{◌≡◌, ◌≤◌, ◌⊎◌, [], ◌∷◌};
 ghost use Rattle.lg_meaning.specs.Faults.{first_fault as first_fault_of};
-ghost use Rattle.lg_meaning.specs.Static.{binary_static, compare_static, unary_static, choose_static, right_of};
-ghost use Rattle.lg_meaning.specs.Value.{binary_value, compare_value, unary_value, choose_value, flagged};
+ghost use Rattle.lg_meaning.specs.Static.{right_of};
+ghost use Rattle.lg_meaning.specs.Operators.{binary_static, compare_static, unary_static, choose_static, binary_value, compare_value, unary_value, choose_value, flagged};
 ghost use Rattle.lg_session.specs.Operations.{operand_static, operand_value, IsReady, right_for, IsArray, IsMade};
 
 use crate::operations::end::EvaluateEnd;

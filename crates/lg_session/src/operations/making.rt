@@ -2,12 +2,10 @@ ghost use Rattle.std.specs.Prelude.{◌≡◌, ◌≤◌, [], length, map, pos, 
 ghost use Rattle.lg_space.specs.Stored.{MAX_VOLUME};
 ghost use Rattle.lg_map.specs.Mapping.{IsMap};
 ghost use Rattle.std.specs.Option.{option_copied};
-ghost use Rattle.lg_space.specs.declared.point.TheConstants.{MAX_AXES};
 ghost use Rattle.lg_elem.specs.declared.dtype.DType.TheVariants.{Int64};
 ghost use Rattle.lg_shape.specs.Shapes.{size_of, whole};
 ghost use Rattle.lg_meaning.specs.Weak.{number_of, integer};
-ghost use Rattle.lg_meaning.specs.Static.{full_static, shaped, type_or, arange_static, array_static, list_type};
-ghost use Rattle.lg_meaning.specs.Value.{filled, counted as counted_from, listed as listed_as};
+ghost use Rattle.lg_meaning.specs.Creation.{full_static, shaped, type_or, arange_static, array_static, list_type, filled, counted as counted_from, listed as listed_as};
 ghost use Rattle.lg_session.specs.Operations.{weak_of, IsMade, IsRanged};
 ghost use Rattle.lg_session.specs.Ruling.{IsNew};
 
@@ -28,8 +26,8 @@ use std::alloc::{AllocError, Global};
 ///
 /// # Errors
 ///
-/// `Range` where the number does not fit the type, then `Shape` where an extent is below 0, then
-/// `Limit`; and `NoMemory`.
+/// `Range` where the number does not fit the type, then `Shape` where an extent is below 0 or there
+/// are too many axes, then `Limit`; and `NoMemory`.
 pub fn full(
     alloc: Global,
     pieces: u32,
@@ -39,7 +37,6 @@ pub fn full(
 ) -> Result<Fresh, EvaluateEnd>
     requires some { 1 ≤ pieces }
     requires few { pieces ≤ 64 }
-    requires axes { length extents.now ≤ MAX_AXES }
     requires ranged { IsRanged (weak_of x) }
     ensures { IsMade (full_static extents.now (weak_of x) dtype)
         (filled (number_of (weak_of x))) result }
@@ -53,7 +50,7 @@ pub fn full(
 ///
 /// # Errors
 ///
-/// `Shape` where an extent is below 0, then `Limit`; and `NoMemory`.
+/// `Shape` where an extent is below 0 or there are too many axes, then `Limit`; and `NoMemory`.
 pub fn zeros(
     alloc: Global,
     pieces: u32,
@@ -62,7 +59,6 @@ pub fn zeros(
 ) -> Result<Fresh, EvaluateEnd>
     requires some { 1 ≤ pieces }
     requires few { pieces ≤ 64 }
-    requires axes { length extents.now ≤ MAX_AXES }
     ensures { IsMade (shaped (type_or dtype Int64) extents.now) (filled (pos 0)) result }
 {
     let (t, shape) = shaped(type_or(dtype, DType::Int64), extents)?;
@@ -73,7 +69,7 @@ pub fn zeros(
 ///
 /// # Errors
 ///
-/// `Shape` where an extent is below 0, then `Limit`; and `NoMemory`.
+/// `Shape` where an extent is below 0 or there are too many axes, then `Limit`; and `NoMemory`.
 pub fn ones(
     alloc: Global,
     pieces: u32,
@@ -82,7 +78,6 @@ pub fn ones(
 ) -> Result<Fresh, EvaluateEnd>
     requires some { 1 ≤ pieces }
     requires few { pieces ≤ 64 }
-    requires axes { length extents.now ≤ MAX_AXES }
     ensures { IsMade (shaped (type_or dtype Int64) extents.now) (filled (pos 1)) result }
 {
     let (t, shape) = shaped(type_or(dtype, DType::Int64), extents)?;

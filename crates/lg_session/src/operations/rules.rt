@@ -3,7 +3,8 @@ ghost use Rattle.std.specs.Prelude.{◌≡◌, ◌⊎◌, Ok};
 ghost use Rattle.std.specs.Result.{result_ok};
 ghost use Rattle.lg_elem.specs.declared.dtype.DType.TheVariants.{Bool as Truth};
 ghost use Rattle.lg_promote.specs.Literals.{is_number};
-ghost use Rattle.lg_meaning.specs.Static.{type_beside as type_beside_of, integer_beside as integer_beside_of, fits as fits_of, both_fit as both_fit_of, common as common_of, shape_of as shape_of_static, elementwise as elementwise_of, type_alone as type_alone_of, binary_static, compare_static, unary_static, choose_static, condition_fits as condition_fits_of};
+ghost use Rattle.lg_meaning.specs.Static.{type_beside as type_beside_of, integer_beside as integer_beside_of, fits as fits_of, both_fit as both_fit_of, common as common_of, shape_of as shape_of_static, elementwise as elementwise_of, type_alone as type_alone_of};
+ghost use Rattle.lg_meaning.specs.Operators.{binary_static, compare_static, unary_static, choose_static, condition_fits as condition_fits_of};
 ghost use Rattle.lg_session.specs.Operations.{operand_static, extents_of, IsArray};
 ghost use Rattle.lg_session.specs.Ruling.{ruled};
 

@@ -1,14 +1,14 @@
 //! Which type and shape an array has that a script writes, or which static fault it has.
 ghost use Rattle.std.specs.Prelude.{◌≡◌, ◌≤◌, ◌-ℤ◌, ◌&&◌, [], ◌∷◌, int_lt, length, map, pos, unsigned_abs, if◌then◌else◌, All, IfOk, IsTrue, Some};
 ghost use Rattle.std.specs.Option.{option_copied};
-ghost use Rattle.lg_space.specs.declared.point.TheConstants.{MAX_AXES};
 ghost use Rattle.lg_space.specs.Stored.{MAX_END, MAX_VOLUME};
 ghost use Rattle.lg_shape.specs.Shapes.{size_of};
 ghost use Rattle.lg_meaning.specs.declared.fault.FaultKind.TheVariants.{Range};
 ghost use Rattle.lg_meaning.specs.Faults.{needing};
 ghost use Rattle.lg_meaning.specs.Weak.{number_of, integer};
 ghost use Rattle.lg_promote.specs.Literals.{is_number};
-ghost use Rattle.lg_meaning.specs.Static.{type_or as type_or_of, weak_type as weak_type_of, is_literal as is_literal_of, are_within, extents, are_extents as are_extents_of, made as made_of, shaped as shaped_of, full_static, arange_static, array_static, are_truths as are_truths_of, list_type as list_type_of, are_literals as are_literals_of};
+ghost use Rattle.lg_meaning.specs.Static.{are_within, made as made_of};
+ghost use Rattle.lg_meaning.specs.Creation.{type_or as type_or_of, weak_type as weak_type_of, is_literal as is_literal_of, extents, are_extents as are_extents_of, shaped as shaped_of, full_static, arange_static, array_static, are_truths as are_truths_of, list_type as list_type_of, are_literals as are_literals_of};
 ghost use Rattle.lg_session.specs.Operations.{weak_of, IsRanged};
 ghost use Rattle.lg_session.specs.Ruling.{ruled_new};
 
@@ -20,6 +20,7 @@ use lg_elem::DType;
 use lg_meaning::FaultKind;
 use lg_promote::literal;
 use lg_shape::Shape;
+use lg_space::MAX_AXES;
 
 /// The type that is written, and else this one.
 pub fn type_or(dtype: Option<DType>, default: DType) -> DType
@@ -89,13 +90,12 @@ fn put_extents(kept: &mut [u64], written: &[i128]) -> bool
 ///
 /// # Errors
 ///
-/// `Shape` where an extent is below 0, then `Limit`.
+/// `Shape` where an extent is below 0 or there are more axes than an array may have, then `Limit`.
 pub fn shaped(t: DType, written: &[i128]) -> Result<(DType, Shape), FaultKind>
-    requires { length written.now ≤ MAX_AXES }
     ensures rule { ruled_new result ≡ shaped_of t written.now }
     ensures small { IfOk result (λ made. size_of made.1 ≤ MAX_VOLUME) }
 {
-    if !are_extents(written) {
+    if !are_extents(written) || MAX_AXES < written.len() {
         return Err(FaultKind::Shape);
     }
     let mut kept = [0; 4];
@@ -115,7 +115,6 @@ pub fn rule_of_full(
     x: Weak,
     dtype: Option<DType>,
 ) -> Result<(DType, Shape), FaultKind>
-    requires { length written.now ≤ MAX_AXES }
     ensures rule { ruled_new result ≡ full_static written.now (weak_of x) dtype }
     ensures small { IfOk result (λ made. size_of made.1 ≤ MAX_VOLUME) }
 {

@@ -1,5 +1,5 @@
-use Rattle.lg_grammar.proofs.SplitLemmas.{cut_from}
 use Rattle.std.proofs.lemmas.List.{take_rest}
+use Rattle.lg_grammar.proofs.Splits.{cut_from}
 use Rattle.lg_grammar.proofs.scripts.line_end.Goals as goal
 
 pub returns-clause-cut : goal.returns-clause-cut

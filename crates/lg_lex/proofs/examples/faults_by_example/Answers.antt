@@ -14,9 +14,6 @@ returns-clause-slash c = example (codes "a / b")
 pub returns-clause-after_operator : goal.returns-clause-after_operator
 returns-clause-after_operator c = example (codes "a==/b")
 
-pub returns-clause-hash : goal.returns-clause-hash
-returns-clause-hash c = example (codes "x = 1 # c")
-
 pub returns-clause-quote : goal.returns-clause-quote
 returns-clause-quote c = example (codes "'a'")
 
@@ -40,6 +37,15 @@ returns-clause-first_of_two c = example (codes "a $ b ?")
 
 pub returns-clause-carriage_return : goal.returns-clause-carriage_return
 returns-clause-carriage_return c = example (97 ∷ 13 ∷ [])
+
+pub returns-clause-inner_return : goal.returns-clause-inner_return
+returns-clause-inner_return c = example (97 ∷ 13 ∷ 32 ∷ 98 ∷ [])
+
+pub returns-clause-second_return : goal.returns-clause-second_return
+returns-clause-second_return c = example (97 ∷ 13 ∷ 13 ∷ [])
+
+pub returns-clause-before_comment : goal.returns-clause-before_comment
+returns-clause-before_comment c = example (codes "a $ # c")
 
 pub returns-clause-no_ascii : goal.returns-clause-no_ascii
 returns-clause-no_ascii c = example (97 ∷ 61 ∷ 195 ∷ 164 ∷ [])

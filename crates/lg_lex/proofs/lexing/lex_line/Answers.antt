@@ -1,9 +1,10 @@
-use Rattle.std.proofs.Common.{◌≡◌, ◌++◌, ◌∷◌, [], ℕ, List, length, not, sym, ap, ◌∙◌, subst, arith}
+use Rattle.std.proofs.Common.{◌≡◌, ◌++◌, ◌∷◌, [], ℕ, List, not, inl, inr, sym, ap, ◌∙◌, subst, arith}
 use Rattle.std.proofs.lemmas.Bool.{cond-true}
-use Rattle.lg_lex.specs.Line.{Holds, Reads, IsFault}
+use Rattle.lg_lex.specs.Line.{Holds, EndsAt, Reads, IsFault}
 use Rattle.lg_lex.specs.declared.tokens.Token.{Token}
 use Rattle.lg_lex.proofs.LineLemmas.{holds_blank, holds_token, stands_push, reads_once, fault_none}
 use Rattle.lg_lex.proofs.lexing.lex_line.Goals as goal
+use Rattle.lg_lex.proofs.lexing.lex_line.Goals.{then-loop-place-test+else-not-begins_comment, else-loop-place-test}
 
 pub loop-place-preserved-then-is_blank : goal.loop-place-preserved-then-is_blank
 loop-place-preserved-then-is_blank c = record {
@@ -17,8 +18,9 @@ returns-in_default-clause-none c =
     let fault : IsFault c.args.line.now c.loop-place.place = record {
       front = c.loop-place.tokens.items;
       holds = c.loop-place.invariant.holds;
-      inside = c.loop-place-test.true;
+      inside = omega arith;
       solid = sym c.is_blank.ensures ∙ c.if-is_blank.false;
+      plain = sym c.begins_comment.ensures ∙ c.if-not-begins_comment.true;
       none = c.in_default.ensures.none;
     } in
     fault_none c.args.line.now c.loop-place.place fault
@@ -36,10 +38,19 @@ loop-place-preserved c =
       holds = subst (λ (z : List Token). Holds line 0 z next.end) (sym pushed) (holds_token line 0 done next c.in-Some.ensures.found here);
     }
 
-whole : (line : List ℕ) (place : ℕ) (tokens : List Token) → place ≡ length line → Holds line 0 tokens place → Reads line tokens
-whole line place tokens e h = subst (λ (i : ℕ). Holds line 0 tokens i) e h
+-- a loop that stops does so at the end of the line, or where a comment begins
+stopped : (c : goal.Left-loop-place) → EndsAt c.args.line.now c.loop-place.place
+stopped c =
+    elim c.loop-place-test.branch [
+      | then-loop-place-test+else-not-begins_comment w ↦ inr (omega arith, sym w.begins_comment.ensures ∙ w.if-not-begins_comment.false)
+      | else-loop-place-test w ↦ inl (omega arith)
+    ]
+
+whole : (c : goal.Left-loop-place) → Reads c.args.line.now c.loop-place.tokens.items
+whole c = record { end = c.loop-place.place; holds = c.loop-place.invariant.holds; ends = stopped c }
+
+pub returns-clause-tokens : goal.returns-clause-tokens
+returns-clause-tokens c = whole c
 
 pub returns-clause-only : goal.returns-clause-only
-returns-clause-only c =
-    let end : c.loop-place.place ≡ length c.args.line.now = omega arith in
-    λ other h. reads_once c.args.line.now other c.loop-place.tokens.items h (whole c.args.line.now c.loop-place.place c.loop-place.tokens.items end c.loop-place.invariant.holds)
+returns-clause-only c = λ other h. reads_once c.args.line.now other c.loop-place.tokens.items h (whole c)

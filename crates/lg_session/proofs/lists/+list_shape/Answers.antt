@@ -1,9 +1,9 @@
-use Rattle.std.proofs.Common.{◌≡◌, ℕ, List, [], ◌∷◌, ◌++◌, true, false, Some, None, Vec, map, drop, length, sym, ap, ◌∙◌, option_map, rules, arith}
+use Rattle.std.proofs.Common.{◌≡◌, ℕ, [], ◌∷◌, ◌++◌, true, false, Vec, map, drop, length, sym, ap, ◌∙◌, option_map, rules}
 use Rattle.std.specs.declared.alloc.Global.{Global}
 use Rattle.std.proofs.lemmas.List.{drop_all}
 use Rattle.lg_tree.specs.View.{list_of}
 use Rattle.lg_tree.specs.declared.trees.ListExpr.{List as Listed}
-use Rattle.lg_meaning.specs.Static.{list_shape}
+use Rattle.lg_meaning.specs.Creation.{list_shape}
 use Rattle.lg_session.specs.ListShapes.{is_alike}
 use Rattle.lg_session.proofs.ListLemmas.{rest_shape, rest_more, rest_differs}
 use Rattle.lg_session.proofs.ShapeLemmas.{shape_none, shape_some, rest_at}

@@ -1,19 +1,16 @@
 use Rattle.std.proofs.Common.{◌≡◌, ℕ, List, ◌≤◌, [], ◌∷◌, sym, ap, subst, ◌∙◌, arith}
-use Rattle.lg_elem.specs.declared.dtype.DType.TheVariants.{Bool as Truth}
 use Rattle.lg_shape.specs.Shapes.{whole, size_of}
 use Rattle.lg_tile.specs.Tiles.{dtype_of, numbers, rect_of}
-use Rattle.lg_map.specs.declared.operation.MapOp.{MapOp}
 use Rattle.lg_map.specs.declared.operation.MapOp.TheVariants as ops
 use Rattle.lg_map.specs.Mapping.{IsMap, Maps}
-use Rattle.lg_meaning.specs.Faults.{first_fault}
-use Rattle.lg_meaning.specs.Static.{binary_static, compare_static, unary_static, choose_static, shape_of, right_of}
-use Rattle.lg_meaning.specs.Value.{binary_value, compare_value, unary_value, choose_value, flagged}
+use Rattle.lg_meaning.specs.Static.{right_of}
+use Rattle.lg_meaning.specs.Operators.{unary_static, unary_value}
 use Rattle.lg_session.specs.Operations.{operand_static, operand_value}
 use Rattle.lg_session.specs.Lending.{spread_at, tile_in, operand_in, inputs_of}
-use Rattle.lg_session.proofs.Joins.{joined_spreads, joined_spreads_three, same_spreads}
-use Rattle.lg_session.proofs.Statics.{BinaryOk, UnaryOk, ChooseOk, CompareOk, binary_ok, compare_ok, unary_ok, choose_ok, fits_common, kind_with}
-use Rattle.lg_session.proofs.Values.{reads_first, reads_second, reads_third, binary_same, binary_flags, compare_same, unary_same, choose_same, spread_self}
-use Rattle.lg_session.proofs.Made.{array_made, value_of_parts, fault_of_two}
+use Rattle.lg_session.proofs.Joins.{same_spreads}
+use Rattle.lg_session.proofs.Statics.{unary_ok, kind_with}
+use Rattle.lg_session.proofs.Values.{reads_first, unary_same, spread_self}
+use Rattle.lg_session.proofs.Made.{array_made, value_of_parts}
 use Rattle.std.proofs.Common.{map}
 use Rattle.lg_elem.specs.Operations.{unary_of}
 use Rattle.lg_session.specs.Lending.{SpreadsTo}

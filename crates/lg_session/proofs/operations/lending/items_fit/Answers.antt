@@ -1,4 +1,4 @@
-use Rattle.std.proofs.Common.{◌≡◌, ◌<◌, ap, sym, ◌∙◌, length, arith}
+use Rattle.std.proofs.Common.{◌≡◌, ◌<◌, ◌∙◌}
 use Rattle.lg_session.proofs.Fits.{fits_more}
 use Rattle.lg_session.proofs.operations.lending.items_fit.Goals as goal
 

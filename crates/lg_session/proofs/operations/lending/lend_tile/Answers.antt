@@ -1,14 +1,13 @@
-use Rattle.std.proofs.Common.{◌≡◌, ◌≤◌, ℕ, List, length, rules, sym, ap, subst, ◌∙◌, arith}
+use Rattle.std.proofs.Common.{◌≡◌, ◌≤◌, ℕ, rules, sym, ap, subst, ◌∙◌, arith}
 use Rattle.std.specs.List.{All}
 use Rattle.std.proofs.lemmas.Slice.Eq.{slice_eq-Decides}
 use Rattle.std.proofs.lemmas.Bool.Decides.{Decides-eqb}
 use Rattle.lg_space.specs.Rectangle.{volume_of}
-use Rattle.lg_shape.specs.Shapes.{whole, size_of}
-use Rattle.lg_tile.specs.Tiles.{dtype_of, numbers, rect_of}
+use Rattle.lg_shape.specs.Shapes.{whole}
+use Rattle.lg_tile.specs.Tiles.{dtype_of}
 use Rattle.lg_tile.proofs.NumberLemmas.{numbers_full}
 use Rattle.lg_map.specs.Mapping.{IsConstant}
-use Rattle.lg_session.specs.Operations.{extents_of, value_with}
-use Rattle.lg_session.specs.Lending.{spread_at}
+use Rattle.lg_session.specs.Operations.{extents_of}
 use Rattle.lg_session.proofs.Spreads.{one_element}
 use Rattle.lg_session.proofs.Lendings.{kept, number_constant, same_spread, one_spread}
 use Rattle.lg_session.proofs.operations.lending.lend_tile.Goals as goal

@@ -1,21 +1,14 @@
-use Rattle.std.proofs.Common.{◌≡◌, ◌≤◌, [], ◌∷◌, ℕ, List, length, map, replicate, None, pos, sym, ap, subst, ◌∙◌, arith}
-use Rattle.std.proofs.lemmas.Int.{ints}
+use Rattle.std.proofs.Common.{◌≡◌, ◌≤◌, [], ◌∷◌, ℕ, List, length, map, None, sym, ap, subst, ◌∙◌}
 use Rattle.std.specs.Option.{option_copied}
 use Rattle.std.proofs.lemmas.List.{length-map}
-use Rattle.lg_elem.specs.declared.dtype.DType.TheVariants.{Int64}
-use Rattle.lg_elem.specs.Types.{wrap}
 use Rattle.lg_shape.specs.Shapes.{whole, size_of}
 use Rattle.lg_map.specs.declared.operation.MapOp.TheVariants as ops
-use Rattle.lg_map.specs.Mapping.{IsConstant, IsMap, map_values}
-use Rattle.lg_meaning.specs.Memory.{writable}
+use Rattle.lg_map.specs.Mapping.{IsMap, map_values}
 use Rattle.lg_meaning.specs.Weak.{number_of}
-use Rattle.lg_meaning.specs.Static.{full_static, shaped, type_or, arange_static, array_static, list_type}
-use Rattle.lg_meaning.specs.Value.{filled, counted as counted_from, listed as listed_as}
+use Rattle.lg_meaning.specs.Creation.{type_or, array_static, list_type, listed as listed_as}
 use Rattle.lg_session.specs.Operations.{weak_of}
-use Rattle.lg_session.proofs.Lendings.{kept}
 use Rattle.lg_session.proofs.Made.{value_of_parts}
-use Rattle.lg_session.proofs.Statics.{kind_with}
-use Rattle.lg_session.proofs.Written.{counted_ok, filled_same, counted_same, listed_same, new_answer, weak_constants, listed_full}
+use Rattle.lg_session.proofs.Written.{listed_same, new_answer, weak_constants, listed_full}
 use Rattle.lg_session.proofs.operations.making.listed.Goals as goal
 
 pub evaluate_new-requires-clause-map : goal.evaluate_new-requires-clause-map

@@ -1,4 +1,4 @@
-use Rattle.std.proofs.Common.{◌≡◌, map, sym, ap, ◌∙◌, arith}
+use Rattle.std.proofs.Common.{◌≡◌, map, ap, ◌∙◌, arith}
 use Rattle.lg_session.proofs.Tilings.{map_narrower, rows_more, rows_all, rows_full}
 use Rattle.lg_session.proofs.operations.tiling.in_rows.Goals as goal
 

@@ -1,9 +1,8 @@
-use Rattle.std.proofs.Common.{◌≡◌, ◌≤◌, length, ap, subst, sym, ◌∙◌, arith, slice_get, Some}
+use Rattle.std.proofs.Common.{◌≡◌, ◌≤◌, length, ap, subst, sym, ◌∙◌, slice_get, Some}
 use Rattle.std.specs.List.{flat_map}
 use Rattle.lg_space.specs.Rectangle.{combinations, indices}
 use Rattle.lg_shape.specs.Shapes.{whole}
 use Rattle.lg_shape.specs.Tiling.{tiles}
-use Rattle.lg_session.specs.Cutting.{InOrder}
 use Rattle.lg_session.proofs.Rows.{first_alone, rows_in_order, rows_axes}
 use Rattle.lg_session.proofs.operations.tiling.row_tiles.Goals as goal
 

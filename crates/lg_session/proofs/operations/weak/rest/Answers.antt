@@ -1,7 +1,6 @@
-use Rattle.std.proofs.Common.{rules, ◌≡◌, ◌-ℤ◌, ◌*ℤ◌, neg_ℤ, pos, ℤ, ◌<ℤ◌, to_z, of_z, arith, sym, ◌∙◌}
-use Rattle.std.proofs.lemmas.Int.{ints, to_z-of_z}
+use Rattle.std.proofs.Common.{rules, ◌≡◌, ◌-ℤ◌, ◌*ℤ◌, neg_ℤ, pos, ℤ, ◌<ℤ◌, arith, sym, ◌∙◌}
+use Rattle.std.proofs.lemmas.Int.{ints}
 use Rattle.std.specs.Int.{int_rem_euclid}
-use Rattle.lg_elem.specs.Operations.{floor_div}
 use Rattle.lg_session.proofs.WeakLemmas.{rest_under}
 use Rattle.lg_session.proofs.operations.weak.rest.Goals as goal
 

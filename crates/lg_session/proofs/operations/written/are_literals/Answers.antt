@@ -2,7 +2,7 @@ use Rattle.std.proofs.Common.{◌≡◌, ap, ◌∙◌, arith}
 use Rattle.std.proofs.lemmas.Int.{ints}
 use mir.Val.{to_z, of_z}
 use mir.Syntax.{w128}
-use Rattle.lg_meaning.specs.Static.{is_literal}
+use Rattle.lg_meaning.specs.Creation.{is_literal}
 use Rattle.lg_session.proofs.Written.{literals_more}
 use Rattle.lg_session.proofs.operations.written.are_literals.Goals as goal
 

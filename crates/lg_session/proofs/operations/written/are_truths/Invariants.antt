@@ -1,5 +1,5 @@
 use Rattle.std.proofs.Common.{◌≡◌, map, take}
-use Rattle.lg_meaning.specs.Static.{are_truths}
+use Rattle.lg_meaning.specs.Creation.{are_truths}
 use Rattle.lg_session.specs.Operations.{weak_of}
 use Rattle.lg_session.proofs.operations.written.are_truths.Given as goal
 

@@ -1,4 +1,4 @@
-use Rattle.std.proofs.Common.{◌≡◌, true, ◌&&◌, ℤ, pos, ◌-ℤ◌, ◌<ℤ◌, ◌∙◌, sym, ap, arith}
+use Rattle.std.proofs.Common.{◌≡◌, true, ◌&&◌, ℤ, pos, ◌-ℤ◌, ◌<ℤ◌, ◌∙◌, sym, arith}
 use Rattle.std.specs.Prelude.{unsigned_abs}
 use Rattle.std.proofs.lemmas.Int.{ints}
 use mir.Val.{to_z, of_z}

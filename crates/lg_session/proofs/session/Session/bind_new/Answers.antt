@@ -3,7 +3,7 @@ use Rattle.lg_store.specs.declared.view.View.{View}
 use Rattle.lg_tile.specs.Tiles.{numbers}
 use Rattle.lg_meaning.specs.Memory.{ArrayKind}
 use Rattle.lg_meaning.specs.Step.{newly_bound}
-use Rattle.lg_session.specs.Names.{environment, view_of, IsReached}
+use Rattle.lg_session.specs.Names.{environment, IsReached}
 use Rattle.lg_session.specs.Roots.{contents, root_of}
 use Rattle.lg_session.specs.Stored.{IsWholeOf}
 use Rattle.lg_session.specs.Standing.{Represents}

@@ -1,4 +1,4 @@
-use Rattle.lg_session.proofs.StatementLemmas.{binds_weak, binds_shown, binds_fresh, faults_fresh}
+use Rattle.lg_session.proofs.StatementLemmas.{binds_weak, binds_shown}
 use Rattle.lg_session.proofs.session.Session.bind_value.Goals as goal
 
 pub returns-in_ok-bind-in-Weak-clause-outcome : goal.returns-in_ok-bind-in-Weak-clause-outcome

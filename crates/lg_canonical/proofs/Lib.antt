@@ -1,0 +1,16 @@
+pub mod Readings
+pub mod Signs
+pub mod Words
+pub mod Running
+pub mod Marks
+pub mod Reserved
+pub mod Pieces
+pub mod Operands
+pub mod Members
+pub mod Calls
+pub mod Methods
+pub mod Goods
+pub mod Derived
+pub mod Lines
+pub mod Rows
+pub mod Scripts

@@ -1,4 +1,0 @@
-use Rattle.lg_grammar.proofs.grammar.+parse.Given as goal
-
-abbrev pub decreases-parse : goal.decreases-parse
-decreases-parse l = l.depth

@@ -1,4 +1,0 @@
-use Rattle.lg_grammar.proofs.keywords.language_word.Goals as goal
-
-pub returns : goal.returns
-returns c = rw c.as_slice.ensures at c.found_in.ensures

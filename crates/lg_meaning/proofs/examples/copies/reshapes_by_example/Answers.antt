@@ -1,0 +1,5 @@
+use Rattle.std.specs.FinMap.{gets}
+use Rattle.lg_meaning.proofs.examples.copies.reshapes_by_example.Goals as goal
+
+pub returns-clause-name_first : goal.returns-clause-name_first
+returns-clause-name_first c = simp gets

@@ -1,0 +1,12 @@
+use Rattle.std.proofs.Common.{◌∙◌}
+use Rattle.lg_parse.specs.Reading.{ahead}
+use Rattle.lg_parse.proofs.CursorLemmas.{front_some, front_none}
+use Rattle.lg_parse.proofs.cursor.Cursor.front.Goals as goal
+
+pub returns-clause-found : goal.returns-clause-found
+unfolding ahead
+returns-clause-found c = front_some _ c.args.self.now.rest.now (c.copied.ensures ∙ c.at.ensures)
+
+pub returns-clause-none : goal.returns-clause-none
+unfolding ahead
+returns-clause-none c = front_none _ c.args.self.now.rest.now (c.copied.ensures ∙ c.at.ensures)

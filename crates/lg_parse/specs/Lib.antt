@@ -1,0 +1,16 @@
+pub mod Terminal
+pub mod Keywords
+pub mod Methods
+pub mod Lexed
+pub mod Operators
+pub mod Types
+pub mod Expressions
+pub mod Brackets
+pub mod Statements
+pub mod Parsing
+pub mod ParsingHeads
+pub mod Reading
+pub mod Parts
+pub mod Nests
+pub mod Laws
+pub mod Examples

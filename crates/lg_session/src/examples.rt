@@ -1,0 +1,35 @@
+//! Worked examples of the definitions. Each clause is computed by the check.
+ghost use Rattle.std.specs.Prelude.{◌≡◌, codes, None, Some, true, false, [], ◌∷◌};
+ghost use Rattle.lg_tree.specs.declared.kinds.Arith.TheVariants.{Add};
+ghost use Rattle.lg_tree.specs.Tree.{number, name, neg, arith, matmul, zeros, arange, array, choose, copy, some_tree, no_tree, no_trees, more_trees, tuple, leaf, list, no_lists, more_lists, bind, print, loop, load, no_lines, more_lines};
+ghost use Rattle.lg_session.specs.Built.{is_built_tree, is_built, first_unbuilt};
+
+/// Which forms a session evaluates so far: each part has to be one of them, wherever it stands.
+pub fn built_by_example()
+    ensures sum { is_built_tree (arith Add (name (codes "a")) (number 1)) ≡ true }
+    ensures product { is_built_tree (matmul (name (codes "a")) (number 1)) ≡ false }
+    ensures inside { is_built_tree (neg (copy (number 1))) ≡ false }
+    ensures left { is_built_tree (arith Add (copy (number 1)) (number 1)) ≡ false }
+    ensures right { is_built_tree (arith Add (number 1) (copy (number 1))) ≡ false }
+    ensures third { is_built_tree (choose (number 1) (number 1) (copy (number 1))) ≡ false }
+    ensures bound { is_built_tree (arange (some_tree (copy (number 1))) (number 4) None) ≡ false }
+    ensures extents { is_built_tree (zeros (tuple (more_trees (number 2)
+        (more_trees (number 3) no_trees))) None) ≡ true }
+    ensures extent { is_built_tree (zeros (tuple (more_trees (number 2)
+        (more_trees (copy (number 3)) no_trees))) None) ≡ false }
+    ensures nested { is_built_tree (array (list (more_lists
+        (list (more_lists (leaf (number 1)) no_lists)) no_lists)) None) ≡ true }
+    ensures member { is_built_tree (array (list (more_lists
+        (list (more_lists (leaf (copy (number 1))) no_lists)) no_lists)) None) ≡ false }
+    ensures bound_name { is_built (bind (codes "a") (number 1)) ≡ true }
+    ensures file { is_built (load (codes "a") (codes "b")) ≡ false }
+    ensures none { first_unbuilt (record { number = 2; statement = print (number 1) } ∷ [])
+        ≡ None }
+    ensures at_loop { first_unbuilt (record { number = 2; statement = print (number 1) }
+        ∷ record {
+          number = 4;
+          statement = loop (codes "k") no_tree (number 2)
+              (more_lines 5 (print (copy (number 1))) no_lines);
+        }
+        ∷ record { number = 6; statement = print (copy (number 1)) } ∷ []) ≡ Some 4 }
+{}

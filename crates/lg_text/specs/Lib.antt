@@ -1,0 +1,4 @@
+pub mod Examples
+pub mod Shares
+pub mod Text
+pub mod Words
