@@ -1,7 +1,9 @@
 -- What a whole call does: from words and bytes to printed text and a status. This project's own.
-use Rattle.std.specs.Prelude.{◌≡◌, ◌⊎◌, ℕ, List, [], ◌∷◌, map, Option, None, Some, String, string_bytes, codes}
+use Rattle.std.specs.Prelude.{◌≡◌, ◌⊎◌, ℕ, List, [], Option, None, Some}
+use Rattle.std.specs.Io.KnownBytes.{Appends}
 use Rattle.lg_outside.specs.Outside.{AppendsPart}
 use Rattle.lg_tree.specs.Tree.{LineTree}
+use Rattle.lg_text.specs.Text.{script_text}
 use Rattle.lg_grammar.specs.Script.{Spells, IsFirstBad}
 use Rattle.lg_session.specs.Built.{first_unbuilt}
 use Rattle.lg_meaning.specs.declared.fault.FaultKind.{FaultKind}
@@ -9,10 +11,6 @@ use Rattle.lg_meaning.specs.Run.{End, done, fault_at, run}
 use Rattle.legate.specs.Running.{Ends, PrintsFirst}
 use Rattle.legate.specs.declared.exit.Exit.{Exit}
 use Rattle.legate.specs.Statuses.{DONE, FAULT}
-
--- the words are the one word `run`
-abbrev pub IsRunCommand : {A : Type 0} → List (String A) → Type 0
-IsRunCommand words = map string_bytes words ≡ codes "run" ∷ []
 
 -- the bytes spell no script
 abbrev pub SpellsNone : List ℕ → Type 0
@@ -43,12 +41,28 @@ pub record Finishes (bytes : List ℕ) (end : End) (left old new : Option (List 
   pub all_read : left ≡ Some []
   pub ends : Ends script end old new
 
+-- the bytes spell this script and no other, none of them is left, and its canonical text was
+-- appended
+pub record Checks (bytes : List ℕ) (left old new : Option (List ℕ)) : Type 0 where
+  pub script : List LineTree
+  pub spelled : Spells bytes script
+  pub only : (other : List LineTree) → Spells bytes other → other ≡ script
+  pub all_read : left ≡ Some []
+  pub printed : Appends old new (script_text script)
+
 -- the bytes spell a script; none of them is left, and of its text only a part was appended
 pub record StopsWithin (bytes : List ℕ) (left old new : Option (List ℕ)) : Type 0 where
   pub script : List LineTree
   pub spelled : Spells bytes script
   pub all_read : left ≡ Some []
   pub printed : AppendsPart old new (run script).text
+
+-- the bytes spell a script; none of them is left, and of its canonical text only a part was appended
+pub record ChecksPart (bytes : List ℕ) (left old new : Option (List ℕ)) : Type 0 where
+  pub script : List LineTree
+  pub spelled : Spells bytes script
+  pub all_read : left ≡ Some []
+  pub printed : AppendsPart old new (script_text script)
 
 -- the bytes spell a script, and what its first statements print was appended
 pub record StopsBetween (bytes : List ℕ) (old new : Option (List ℕ)) : Type 0 where

@@ -1,4 +1,5 @@
-ghost use Rattle.std.specs.Prelude.{◌≡◌, None};
+ghost use Rattle.std.specs.Prelude.{◌≡◌, None, Some};
+ghost use Rattle.legate.specs.Statuses as statuses;
 
 use lg_meaning::FaultKind;
 
@@ -24,6 +25,28 @@ impl Exit {
             status,
             line: 0,
             kind: None,
+        }
+    }
+
+    /// The answer that no script which is evaluated is spelled, because of this line.
+    pub fn syntax(line: u64) -> Exit
+        ensures { result ≡ record { status = statuses.SYNTAX; line = line; kind = None } }
+    {
+        Exit {
+            status: SYNTAX,
+            line,
+            kind: None,
+        }
+    }
+
+    /// The answer that the statement of this line has this fault.
+    pub fn fault(line: u64, kind: FaultKind) -> Exit
+        ensures { result ≡ record { status = statuses.FAULT; line = line; kind = Some kind } }
+    {
+        Exit {
+            status: FAULT,
+            line,
+            kind: Some(kind),
         }
     }
 }

@@ -1,6 +1,9 @@
-//! The program: it runs a script of array statements, and prints what the script prints.
+//! The program: it runs a script of array statements, and prints what the script prints; or it
+//! writes the script's canonical text.
 #![tactic(auto)]
 
+mod checking;
+mod command;
 mod exit;
 mod loading;
 mod messages;
@@ -18,8 +21,8 @@ use std::process::ExitCode;
 use std::{env, io};
 pub use top::legate;
 
-/// Runs the script on standard input by the words after the program's name, prints to standard
-/// output, writes messages to standard error, and ends with the status.
+/// Reads the script on standard input and does with it what the words after the program's name say.
+/// It prints to standard output, writes messages to standard error, and ends with the status.
 fn main(rt: HostRuntime) -> ExitCode {
     let mut source = StdSource::new(rt.stdin());
     let mut out = StdSink::new(rt.stdout());

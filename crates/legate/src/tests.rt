@@ -45,6 +45,20 @@ fn plain(script: &'static str, status: u8, line: u64, out: &'static str, log: &'
     }
 }
 
+// A row of `check` with streams that don't fail.
+fn checked(
+    script: &'static str,
+    status: u8,
+    line: u64,
+    out: &'static str,
+    log: &'static str,
+) -> Row {
+    Row {
+        words: &["check"],
+        ..plain(script, status, line, out, log)
+    }
+}
+
 // A row of `run` that ends with a fault.
 fn faulty(
     script: &'static str,
@@ -250,6 +264,58 @@ fn streams_and_words_fail(rt: HostRuntime) -> Result<(), Fail> {
             out: "",
             log: "usage: legate run, check or demo\n",
             ..base
+        },
+    ];
+    for row in &rows {
+        try_row(&rt, rt.alloc(), row)?;
+    }
+    Ok(())
+}
+
+// A script is written in its canonical form and not run: its names need no values.
+#[test]
+fn scripts_are_checked(rt: HostRuntime) -> Result<(), Fail> {
+    let good = checked(
+        "a=full(3,7)\n\nprint( (a+a)*b )\n",
+        0,
+        0,
+        "a = full(3, 7)\nprint((a + a) * b)\n",
+        "",
+    );
+    let rows = [
+        good,
+        checked("x=1+2*a # c", 0, 0, "x = 1 + (2 * a)\n", ""),
+        checked("", 0, 0, "", ""),
+        checked("print(1)\nb = = a", 3, 2, "", "line 2: syntax\n"),
+        checked("print(1)\n\nprint(a[1])", 3, 3, "", "line 3: syntax\n"),
+        Row {
+            room: 20,
+            status: 7,
+            out: "a = full(3, 7)\nprint",
+            log: "write fault\n",
+            ..good
+        },
+        Row {
+            piece: 4,
+            reads: &[2],
+            status: 6,
+            out: "",
+            log: "read fault\n",
+            ..good
+        },
+        Row {
+            words: &["check", "x"],
+            status: 2,
+            out: "",
+            log: "usage: legate run, check or demo\n",
+            ..good
+        },
+        Row {
+            words: &["Check"],
+            status: 2,
+            out: "",
+            log: "usage: legate run, check or demo\n",
+            ..good
         },
     ];
     for row in &rows {

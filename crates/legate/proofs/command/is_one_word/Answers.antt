@@ -1,6 +1,6 @@
 use Rattle.std.specs.Prelude.{string_bytes}
 use Rattle.legate.proofs.WordLemmas.{one_word}
-use Rattle.legate.proofs.top.is_run_command.Goals as goal
+use Rattle.legate.proofs.command.is_one_word.Goals as goal
 
 pub returns-then-words-eq1 : goal.returns-then-words-eq1
 returns-then-words-eq1 c =
