@@ -10,6 +10,7 @@ use Rattle.lg_lex.specs.declared.tokens.Token.{Token}
 use Rattle.lg_lex.specs.declared.tokens.TokenKind.{TokenKind}
 use Rattle.lg_parse.specs.Terminal.{Terminal}
 use Rattle.lg_parse.specs.Lexed.{terminal_from, terminal_at, terminals_of}
+use Rattle.lg_canonical.proofs.Words.{front_taken}
 
 pub record Reading (bytes : List ℕ) (ts : List Terminal) : Type 0 where
   pub tokens : List Token
@@ -109,10 +110,6 @@ space_first rest ts r = record {
   };
   are = terminals_behind (32 ∷ []) rest r.tokens ∙ r.are;
 }
-
-front_taken : (text rest : List ℕ) → take (length text) (text ++ rest) ≡ text
-front_taken [] rest = refl
-front_taken (b ∷ bs) rest = ap (λ (z : List ℕ). b ∷ z) (front_taken bs rest)
 
 all_of : (n : ℕ) → n - 0 ≡ n
 all_of n = omega arith

@@ -1,5 +1,5 @@
 -- The text of a script is cut into the lines of its rows, and each holds its row again.
-use Rattle.std.proofs.Common.{◌≡◌, ◌==◌, ◌&&◌, ◌*◌, ◌+◌, ◌-◌, ◌≤◌, ℕ, zero, suc, Bool, true, false, not, cond, if◌then◌else◌, List, [], ◌∷◌, ◌++◌, length, map, take, refl, sym, ap, ◌∙◌, subst, replicate, arith}
+use Rattle.std.proofs.Common.{◌≡◌, ◌==◌, ◌&&◌, ◌*◌, ◌+◌, ◌-◌, ◌≤◌, ℕ, zero, suc, Bool, true, false, not, cond, if◌then◌else◌, List, [], ◌∷◌, ◌++◌, length, map, take, refl, sym, ap, ◌∙◌, subst, replicate}
 use Rattle.std.specs.Prelude.{⊤, take_while, slice_index}
 use Rattle.std.specs.List.{AllByRecursion, prefix_len, slice_split, onto_first}
 use Rattle.lg_lex.specs.Bytes.{is_blank, without_return}
@@ -15,7 +15,7 @@ use Rattle.lg_blocks.specs.Renumbering.{numbered}
 use Rattle.lg_grammar.specs.Script.{lines_of, MAX_DEPTH, HoldsLine, HoldsRows, ended, skipped, held}
 use Rattle.lg_canonical.specs.Heads.{head_line}
 use Rattle.lg_canonical.proofs.Readings.{Reading, empty_read, nothing, space_first, whole_line}
-use Rattle.lg_canonical.proofs.Words.{is_flat, flat_append, parts}
+use Rattle.lg_canonical.proofs.Words.{one_more, is_flat, flat_append, parts}
 use Rattle.lg_canonical.proofs.Goods.{are_good}
 use Rattle.lg_canonical.proofs.Lines.{IsSolid, LinePiece, line_read}
 use Rattle.lg_canonical.proofs.Rows.{row_line, rows_text}
@@ -98,11 +98,8 @@ solid_none : (text : List ℕ) → IsSolid text → take_while is_blank text ≡
 solid_none [] h = absurd h
 solid_none (b ∷ bs) h = ap (λ (t : Bool). take (cond t (1 + prefix_len is_blank bs) 0) (b ∷ bs)) h
 
-more : (n : ℕ) → 1 + n ≡ suc n
-more n = omega arith
-
 taken_more : (n b : ℕ) (bs : List ℕ) → take (1 + n) (b ∷ bs) ≡ b ∷ take n bs
-taken_more n b bs = ap (λ (m : ℕ). take m (b ∷ bs)) (more n)
+taken_more n b bs = ap (λ (m : ℕ). take m (b ∷ bs)) (one_more n)
 
 spaces_taken : (n : ℕ) (text : List ℕ) → IsSolid text → take_while is_blank (replicate n 32 ++ text) ≡ replicate n 32
 spaces_taken zero text h = solid_none text h

@@ -15,14 +15,14 @@ run_none : (rest : List ℕ) → BeginsApart rest → prefix_len is_word_byte re
 run_none [] h = refl
 run_none (b ∷ bs) h = ap (λ (t : Bool). cond t (1 + prefix_len is_word_byte bs) 0) h
 
-more : (n : ℕ) → 1 + n ≡ suc n
-more n = omega arith
+pub one_more : (n : ℕ) → 1 + n ≡ suc n
+one_more n = omega arith
 
 -- the run of word bytes ends where the text ends
 run_of : (text rest : List ℕ) → AllWordBytes text → BeginsApart rest → prefix_len is_word_byte (text ++ rest) ≡ length text
 run_of [] rest h g = run_none rest g
 run_of (b ∷ bs) rest h g =
-    ap (λ (t : Bool). cond t (1 + prefix_len is_word_byte (bs ++ rest)) 0) h.0 ∙ ap (λ (n : ℕ). 1 + n) (run_of bs rest h.1 g) ∙ more (length bs)
+    ap (λ (t : Bool). cond t (1 + prefix_len is_word_byte (bs ++ rest)) 0) h.0 ∙ ap (λ (n : ℕ). 1 + n) (run_of bs rest h.1 g) ∙ one_more (length bs)
 
 within : (text rest : List ℕ) → length text ≤ length (text ++ rest)
 within text rest = omega (arith, length-append text rest)
@@ -43,7 +43,7 @@ pub word_first : (w rest : List ℕ) → IsWord w → BeginsApart rest → Begin
 word_first w rest h g =
     word_begins (w ++ rest) (length w) (sym (run_of w rest (word_bytes w h) g)) (within w rest) (starts_letter w rest h)
 
-front_taken : (text rest : List ℕ) → take (length text) (text ++ rest) ≡ text
+pub front_taken : (text rest : List ℕ) → take (length text) (text ++ rest) ≡ text
 front_taken [] rest = refl
 front_taken (b ∷ bs) rest = ap (λ (z : List ℕ). b ∷ z) (front_taken bs rest)
 
