@@ -14,3 +14,4 @@ pub mod Points
 pub mod Corners
 pub mod Linear
 pub mod Picks
+pub mod Repeats

@@ -4,6 +4,7 @@ pub mod Chains
 pub mod Corners
 pub mod Footprints
 pub mod Copies
+pub mod Repeats
 pub mod Laws
 pub use Rattle.lg_shape.specs.Shapes
 pub use Rattle.lg_shape.specs.Views

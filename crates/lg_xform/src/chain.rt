@@ -8,6 +8,7 @@ ghost use Rattle.lg_xform.specs.Moves.{extents_of, IsHeld, AreRooted};
 
 mod footprint;
 mod indexing;
+mod repeating;
 mod steps;
 mod strides;
 
