@@ -1,4 +1,9 @@
 pub mod Runs
+pub mod Walks
+pub mod Lines
+pub mod Turns
+pub mod Blocks
+pub mod Scripts
 pub mod WordLemmas
 pub mod StatusLemmas
 pub mod PartLemmas

@@ -11,6 +11,7 @@ mod running;
 #[cfg(test)]
 mod tests;
 mod top;
+mod walk;
 
 pub use exit::Exit;
 use exit::NO_MEMORY;

@@ -1,25 +1,20 @@
-ghost use Rattle.std.specs.Prelude.{◌≡◌, ◌≤◌, None, true, false, OnOk, IfErr, IsErrOf};
+ghost use Rattle.std.specs.Prelude.{◌≡◌, ◌≤◌, None, OnOk, IfErr, IsErrOf};
 ghost use Rattle.lg_outside.specs.Outside.{Rose};
-ghost use Rattle.lg_tree.specs.View.{script_of, line_of};
-ghost use Rattle.lg_meaning.specs.Memory.{State};
+ghost use Rattle.lg_tree.specs.View.{script_of};
 ghost use Rattle.lg_meaning.specs.Run.{done};
-ghost use Rattle.lg_session.specs.Built.{is_built, first_unbuilt};
-ghost use Rattle.lg_session.specs.Session.{is_spent};
-ghost use Rattle.lg_session.specs.Standing.{StandsFor};
-ghost use Rattle.legate.specs.Running.{Ends, IsStopped, stop_of, Writes, StopsWriting};
+ghost use Rattle.lg_session.specs.Built.{first_unbuilt};
+ghost use Rattle.legate.specs.Running.{Ends, IsStopped, stop_of};
 
+use crate::walk::run_lines;
 use lg_meaning::FaultKind;
-use lg_outside::{Sink, write_all};
+use lg_outside::Sink;
 use lg_session::{Session, StopEnd};
-use lg_tree::{Line, Script};
+use lg_tree::Script;
 use std::alloc::Global;
 
 /// Into how many tiles an operation is cut at most. It never changes what a script prints; on one
 /// thread one tile takes the least time, since nothing has to be joined.
 const PIECES: u32 = 1;
-
-/// How many statements are run at most. A script that reaches one more has a fault there.
-const MAX_STATEMENTS: u64 = 100_000;
 
 /// Why a run stopped before its end.
 #[derive(Clone, Copy, Debug)]
@@ -65,42 +60,11 @@ pub fn run_script<K: Sink>(alloc: Global, script: &Script, out: &mut K) -> Resul
         return Err(RunStop::NoMemory);
     };
     let mut count = 0;
-    for line in script.lines.as_slice() {
-        if count == MAX_STATEMENTS {
-            return Err(RunStop::Fault {
-                line: line.number,
-                kind: FaultKind::Limit,
-            });
-        }
-        run_line(alloc, line, &mut session, out)?;
-        count += 1;
-    }
-    Ok(())
-}
-
-// Runs the statement of a line, and writes what it prints.
-fn run_line<K: Sink>(
-    alloc: Global,
-    line: &Line,
-    session: &mut Session,
-    out: &mut K,
-) -> Result<(), RunStop>
-    requires going { is_spent session.old ≡ false }
-    requires built { is_built (line_of line.now).statement ≡ true }
-    ensures unspent { OnOk result (is_spent session.new ≡ false) }
-    ensures done { OnOk result ((state : State) → StandsFor session.old state →
-        Writes (line_of line.now) state (K.written out.old) (K.written out.new) session.new) }
-    ensures stopped { IfErr result (λ stop. (state : State) → StandsFor session.old state →
-        StopsWriting stop (line_of line.now) state (K.written out.old) (K.written out.new)) }
-    ensures fault { IsErrOf result RunStop.WriteFault → Rose (K.faults out.old) (K.faults out.new) }
-    ensures later { K.faults out.old ≤ K.faults out.new }
-{
-    let text = match session.step(alloc, line) {
-        Ok(text) => text,
-        Err(stop) => return Err(RunStop::from(stop.end)),
-    };
-    let Ok(()) = write_all(out, &text) else {
-        return Err(RunStop::WriteFault);
-    };
-    Ok(())
+    run_lines(
+        alloc,
+        script.lines.as_slice(),
+        &mut session,
+        &mut count,
+        out,
+    )
 }

@@ -1,4 +1,5 @@
 //! Whole calls over streams in memory, with what each must answer, print and log.
+mod loops;
 mod scripts;
 mod statements;
 
@@ -149,7 +150,7 @@ fn scripts_print(rt: HostRuntime) -> Result<(), Fail> {
 #[test]
 fn scripts_have_faults(rt: HostRuntime) -> Result<(), Fail> {
     let rows = [
-        plain("print(a[1])", 3, 1, "", "line 1: syntax\n"),
+        plain("print(sum(a))", 3, 1, "", "line 1: syntax\n"),
         faulty("print(a + 1)", 1, FaultKind::Name, "", "line 1: name\n"),
         plain(
             "print(full(1, 1))\nprint(full(1, 01))\n",
@@ -252,6 +253,14 @@ fn streams_and_words_fail(rt: HostRuntime) -> Result<(), Fail> {
             ..base
         },
         Row {
+            script: "for i in range(3):\n    print(i)",
+            writes: &[3],
+            status: 7,
+            out: "0\n1\n",
+            log: "write fault\n",
+            ..base
+        },
+        Row {
             words: &[],
             status: 2,
             out: "",
@@ -287,7 +296,7 @@ fn scripts_are_checked(rt: HostRuntime) -> Result<(), Fail> {
         checked("x=1+2*a # c", 0, 0, "x = 1 + (2 * a)\n", ""),
         checked("", 0, 0, "", ""),
         checked("print(1)\nb = = a", 3, 2, "", "line 2: syntax\n"),
-        checked("print(1)\n\nprint(a[1])", 3, 3, "", "line 3: syntax\n"),
+        checked("print(1)\n\nprint(sum(a))", 3, 3, "", "line 3: syntax\n"),
         Row {
             room: 20,
             status: 7,
@@ -348,8 +357,9 @@ fn each_read_fails_in_turn(rt: HostRuntime) -> Result<(), Fail> {
 #[test]
 fn each_room_is_filled(rt: HostRuntime) -> Result<(), Fail> {
     let alloc = rt.alloc();
-    let script = b"a = full(3, 7)\nprint(a + a)\nprint(full(1, 5))\nprint(zz)";
-    let text = b"[14, 14, 14]\n[5]\n".as_slice();
+    let script =
+        b"a = full(3, 7)\nprint(a + a)\nfor i in range(2):\n    print(i)\n    print(full(1, 5))\nprint(zz)";
+    let text = b"[14, 14, 14]\n0\n[5]\n1\n[5]\n".as_slice();
     for room in 0..text.len() {
         let words = vec![in alloc; String::from_str(alloc, "run")?]?;
         let mut source = MemorySource::new(script.to_vec(alloc)?, 8, Vec::new(alloc));
@@ -426,8 +436,8 @@ fn prints(rt: &impl Abort, alloc: Global, script: Vec<u8>, text: &[u8]) -> Resul
     Ok(())
 }
 
-// Many statements, and more elements than fit in a few pages: a run that gives
-// up early is seen.
+// Many statements, written out or in a loop, and more elements than fit in a few pages: a run that
+// gives up early is seen.
 #[test]
 fn long_scripts_and_large_arrays_run(rt: HostRuntime) -> Result<(), Fail> {
     let alloc = rt.alloc();
@@ -437,6 +447,8 @@ fn long_scripts_and_large_arrays_run(rt: HostRuntime) -> Result<(), Fail> {
         script.extend_from_slice(b"print(full(1, 8))\n")?;
         text.extend_from_slice(b"[8]\n")?;
     }
+    prints(&rt, alloc, script, &text)?;
+    let script = Vec::from_slice(alloc, b"for i in range(1000):\n    print(full(1, 8))\n")?;
     prints(&rt, alloc, script, &text)?;
     let mut text = Vec::from_slice(alloc, b"[5")?;
     for _ in 1..2_000_000 {

@@ -22,7 +22,7 @@ behind_nothing (Err kind) = refl
 pub behind_all : {A : Type 0} (xs : List A) → behind xs (Ok []) ≡ Ok xs
 behind_all xs = ap Ok (append-nil xs)
 
-behind_more : {A : Type 0} (xs : List A) (x : A) (r : Result (List A) FaultKind) → behind xs (from_part r (λ ys. Ok (x ∷ ys))) ≡ behind (xs ++ x ∷ []) r
+pub behind_more : {A : Type 0} (xs : List A) (x : A) (r : Result (List A) FaultKind) → behind xs (from_part r (λ ys. Ok (x ∷ ys))) ≡ behind (xs ++ x ∷ []) r
 behind_more xs x (Ok ys) = ap Ok (sym (append_assoc xs (x ∷ []) ys))
 behind_more xs x (Err kind) = refl
 

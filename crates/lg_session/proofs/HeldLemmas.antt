@@ -1,57 +1,130 @@
 -- What the session keeps of what names stand for, from one step to the next.
-use Rattle.std.proofs.Common.{◌≡◌, ◌≢◌, ℕ, ◌==◌, eqb-true, eq-eqb, Bool, true, false, ◌⊎◌, inl, inr, ⊎_elim, List, [], length, map, get_or, Option, None, Some, Result, Ok, Err, OnOk, OnErr, IfOk, IsSomeAnd, option_and_then, refl, sym, ap, subst, ◌∙◌, ℤ, pos, bytes_eq, if◌then◌else◌}
+use Rattle.std.proofs.Common.{◌≡◌, ◌≢◌, ℕ, ◌==◌, eqb-true, eq-eqb, Bool, true, false, ◌⊎◌, inl, inr, ⊎_elim, ◌<◌, arith, slice_get, option_map, replicate, List, [], ◌∷◌, length, map, get_or, Option, None, Some, Result, Ok, Err, OnOk, OnErr, IfOk, IsSomeAnd, option_and_then, refl, sym, ap, subst, ◌∙◌, pos, bytes_eq, if◌then◌else◌}
 use Rattle.std.specs.List.{range_with_len}
 use Rattle.std.specs.Cmp.Lexicographic.{bytes_decides, slice_cmp}
 use Rattle.std.specs.Ordering.{nat_cmp}
 use Rattle.std.specs.FinMap.{get, get-empty}
 use Rattle.std.proofs.lemmas.Bool.{cases_Bool, cond-true, cond-false}
 use Rattle.std.proofs.lemmas.List.FromFn.{fill_by_all}
-use Rattle.std.proofs.lemmas.Option.{same_Some}
+use Rattle.std.proofs.lemmas.List.{get_or-replicate, length-replicate}
+use Rattle.std.proofs.lemmas.Option.{same_Some, slice_get-map}
 use Rattle.lg_store.specs.declared.view.View.{View as CodeView}
-use Rattle.lg_shape.specs.Shapes.{size_of}
+use Rattle.lg_shape.specs.Shapes.{size_of, whole, places, place_of}
+use Rattle.lg_shape.specs.Views.{Layout, whole_layout}
+use Rattle.lg_space.specs.Rectangle.{IsIn}
+use Rattle.lg_space.proofs.Places.{place-below, stands_once}
+use Rattle.lg_xform.specs.declared.chain.Chain.{Chain}
+use Rattle.lg_xform.specs.Chains.{layout_of, shape_of, mapped, IsUnsplit}
+use Rattle.lg_xform.specs.Chains.{root_of as chain_root}
 use Rattle.lg_tile.specs.declared.any_tile.AnyTile.{AnyTile}
-use Rattle.lg_tile.specs.Tiles.{numbers}
+use Rattle.lg_tile.specs.Tiles.{numbers, dtype_of, rect_of}
 use Rattle.lg_meaning.specs.Memory as memory
 use Rattle.lg_meaning.specs.Memory.{Root, View, numbers_of}
 use Rattle.lg_meaning.specs.Run.{start}
-use Rattle.lg_meaning.specs.Value as meaning
 use Rattle.lg_meaning.specs.Value.{plain}
-use Rattle.lg_session.specs.Operations.{value_with}
+use Rattle.lg_session.specs.Operations.{value_with, kind_of, extents_of, right_for, IsWhole}
 use Rattle.lg_session.specs.Worlds.{Roots, Names, number_at, shown_in, SameBound}
 use Rattle.lg_session.specs.Names.{view_of, bound_at, viewed_root, IsReached}
 use Rattle.lg_session.specs.Roots.{root_of}
-use Rattle.lg_session.specs.Stored.{IsWholeOf, IsHeld, IsStored, AreHeld, AreRanged, IsTidyAt}
+use Rattle.lg_session.specs.Stored.{IsViewOf, IsWholeOf, IsHeld, IsStored, AreHeld, AreRanged, IsTidyAt}
 use Rattle.lg_session.specs.Standing.{Represents, names_in}
 use Rattle.lg_session.specs.declared.names.Bound.{Bound}
 use Rattle.lg_session.specs.declared.names.Bound.TheVariants.{Weak, Array}
 use Rattle.lg_session.specs.declared.names.Names.{Names as CodeNames}
 
--- ---- a view of a whole root
+-- ---- a view of a root
 
 -- a view of a root that is what it was
 pub held_kept : (A C : Roots) (view : CodeView) → C view.root ≡ A view.root → IsHeld A view → IsHeld C view
-held_kept A C view same h = subst (λ (o : Option Root). IsSomeAnd o (IsWholeOf view)) (sym same) h
+held_kept A C view same h = subst (λ (o : Option Root). IsSomeAnd o (IsViewOf view)) (sym same) h
 
 -- the root that there is
-pub whole_held : (A : Roots) (view : CodeView) (root : Root) → A view.root ≡ Some root → IsHeld A view → IsWholeOf view root
-whole_held A view root is h = subst (λ (o : Option Root). IsSomeAnd o (IsWholeOf view)) is h
+pub view_held : (A : Roots) (view : CodeView) (root : Root) → A view.root ≡ Some root → IsHeld A view → IsViewOf view root
+view_held A view root is h = subst (λ (o : Option Root). IsSomeAnd o (IsViewOf view)) is h
 
 -- the whole of a root shows its numbers
 pub shown_whole : (A : Roots) (view : CodeView) (root : Root) → A view.root ≡ Some root → IsWholeOf view root → shown_in A (view_of view) ≡ root.numbers
 shown_whole A view root is w =
     ap (map (λ place. number_at A (view.root, place))) w.places
     ∙ ap (λ (o : Option Root). map (λ place. get_or (numbers_of o) place (pos 0)) (range_with_len 0 (size_of root.shape))) is
-    ∙ ap (λ n. map (λ place. get_or root.numbers place (pos 0)) (range_with_len 0 n)) (sym w.full)
+    ∙ ap (λ n. map (λ place. get_or root.numbers place (pos 0)) (range_with_len 0 n)) (sym w.of_root.full)
     ∙ sym (fill_by_all (λ place. get_or root.numbers place (pos 0)) root.numbers (length root.numbers) (pos 0) refl (λ i h. refl))
 
--- the tile of a root is what the view shows
-pub operand_shown : (A : Roots) (view : CodeView) (tile : AnyTile) → A view.root ≡ Some (root_of tile) → IsHeld A view
-    → value_with tile None ≡ plain (view_of view).kind.shape (shown_in A (view_of view))
-operand_shown A view tile is h =
-    let w = whole_held A view (root_of tile) is h in
-    let shape : (value_with tile None).shape ≡ (view_of view).kind.shape = sym w.shape in
-    let same : numbers tile ≡ shown_in A (view_of view) = sym (shown_whole A view (root_of tile) is w) in
-    λ i. record { shape = shape i; numbers = same i; fault = None }
+-- where a chain leads each index into its root, its places are places of the root
+pub places_inside : (chain : Chain) (count : ℕ) → count ≡ size_of (chain_root chain)
+    → ((index : List ℕ) → IsIn (whole (shape_of chain)) index → IsIn (whole (chain_root chain)) (mapped chain index))
+    → (i place : ℕ) → slice_get (layout_of chain).places i ≡ Some place → place < count
+places_inside chain count full inside i place at = by_index (slice_get (places (shape_of chain)) i) refl
+  where
+    lead : List ℕ → ℕ
+    lead index = place_of (chain_root chain) (mapped chain index)
+
+    none_some : None ≡ Some place → ⊥
+    none_some e = cc
+
+    by_index : (p : Option (List ℕ)) → slice_get (places (shape_of chain)) i ≡ p → place < count
+    by_index None e = absurd (none_some (sym (ap (option_map lead) e) ∙ sym (slice_get-map lead (places (shape_of chain)) i) ∙ at))
+    by_index (Some index) e =
+        let same : lead index ≡ place = same_Some _ _ (sym (ap (option_map lead) e) ∙ sym (slice_get-map lead (places (shape_of chain)) i) ∙ at) in
+        let below = place-below (whole (chain_root chain)) (mapped chain index) (inside index (stands_once (whole (shape_of chain)) i index e).0) in
+        omega (arith, same, below, full)
+
+-- no axis of a whole root is split
+pub unsplit_whole : (inner : List Bool) (n : ℕ) → inner ≡ replicate n false → IsUnsplit inner
+unsplit_whole inner n is = λ k d below. ap (λ l. get_or l k d) is ∙ get_or-replicate n k false d (omega (arith, below, ap length is, length-replicate n false))
+
+-- a view with the layout of the whole root is the whole of it
+whole_by : (view : CodeView) (root : Root) → IsViewOf view root → layout_of view.chain ≡ whole_layout (chain_root view.chain) → IsWholeOf view root
+whole_by view root h is = record {
+  of_root = h;
+  shape = ap (λ (l : Layout). l.shape) is ∙ h.shape;
+  places = ap (λ (l : Layout). l.places) is ∙ ap (λ s. range_with_len 0 (size_of s)) h.shape;
+}
+
+-- the kind and the value of a whole view are those of the root's tile
+module _ (A : Roots) (view : CodeView) (tile : AnyTile) (is : A view.root ≡ Some (root_of tile)) (held : IsHeld A view)
+    (layout : layout_of view.chain ≡ whole_layout (chain_root view.chain)) where
+  pub lent_kind : kind_of tile view.right ≡ (view_of view).kind
+  lent_kind =
+      let h = view_held A view (root_of tile) is held in
+      let w = whole_by view (root_of tile) h layout in
+      λ i. record { dtype = h.dtype i; shape = sym w.shape i; right = right_for view.right }
+
+  pub lent_value : value_with tile None ≡ plain (view_of view).kind.shape (shown_in A (view_of view))
+  lent_value =
+      let w = whole_by view (root_of tile) (view_held A view (root_of tile) is held) layout in
+      let shape : (value_with tile None).shape ≡ (view_of view).kind.shape = sym w.shape in
+      let same : numbers tile ≡ shown_in A (view_of view) = sym (shown_whole A view (root_of tile) is w) in
+      λ i. record { shape = shape i; numbers = same i; fault = None }
+
+pub extents_back : (shape : List ℕ) → map (λ (range : ℕ × ℕ). range.1) (whole shape) ≡ shape
+extents_back [] = refl
+extents_back (e ∷ shape) = ap (e ∷◌) (extents_back shape)
+
+-- those of any view are those of its elements, gathered
+module _ (A : Roots) (view : CodeView) (tile out : AnyTile) (is : A view.root ≡ Some (root_of tile)) (held : IsHeld A view)
+    (dtype : dtype_of out ≡ dtype_of tile) (rect : rect_of out ≡ whole (shape_of view.chain))
+    (gathered : numbers out ≡ map (λ place. get_or (numbers tile) place (pos 0)) (layout_of view.chain).places) where
+  extents : extents_of out ≡ shape_of view.chain
+  extents = ap (map (λ (range : ℕ × ℕ). range.1)) rect ∙ extents_back (shape_of view.chain)
+
+  pub gathered_kind : kind_of out view.right ≡ (view_of view).kind
+  gathered_kind =
+      let same : dtype_of out ≡ view.dtype = dtype ∙ (view_held A view (root_of tile) is held).dtype in
+      λ i. record { dtype = same i; shape = extents i; right = right_for view.right }
+
+  pub gathered_value : value_with out None ≡ plain (view_of view).kind.shape (shown_in A (view_of view))
+  gathered_value =
+      let same : numbers out ≡ shown_in A (view_of view) =
+      gathered ∙ ap (λ (o : Option Root). map (λ place. get_or (numbers_of o) place (pos 0)) (layout_of view.chain).places) (sym is) in
+      λ i. record { shape = extents i; numbers = same i; fault = None }
+
+  pub gathered_whole : IsWhole out
+  gathered_whole = rect ∙ ap whole (sym extents)
+
+-- a root's tile is over all indices of the shape that the chain leads into
+pub root_rect : (A : Roots) (view : CodeView) (tile : AnyTile) → A view.root ≡ Some (root_of tile) → IsHeld A view → IsWhole tile → rect_of tile ≡ whole (chain_root view.chain)
+root_rect A view tile is held full = full ∙ ap whole (sym (view_held A view (root_of tile) is held).shape)
 
 -- ---- a name that was bound
 
@@ -131,7 +204,7 @@ module _ (A C : Roots) (old new : CodeNames) (word : List ℕ) (bound : Bound)
 pub held_added : {E : Type 0} (r : Result ℕ E) (A C : Roots) (names : CodeNames) → IfOk r (λ root. A root ≡ None)
     → IfOk r (λ root. (other : ℕ) → root ≢ other → C other ≡ A other) → OnErr r ((root : ℕ) → C root ≡ A root) → AreHeld A names → AreHeld C names
 held_added (Ok root) A C names free others same held w view is =
-    let apart : root ≡ view.root → ⊥ = λ e. subst (λ (o : Option Root). IsSomeAnd o (IsWholeOf view)) (ap A (sym e) ∙ free) (held w view is) in
+    let apart : root ≡ view.root → ⊥ = λ e. subst (λ (o : Option Root). IsSomeAnd o (IsViewOf view)) (ap A (sym e) ∙ free) (held w view is) in
     held_kept A C view (others view.root apart) (held w view is)
 held_added (Err e) A C names free others same held w view is = held_kept A C view (same view.root) (held w view is)
 

@@ -1,11 +1,11 @@
 -- Two shapes that broadcast can each be repeated to the shape to which they do.
-use Rattle.std.proofs.Common.{◌≡◌, ℕ, ◌⊎◌, inl, inr, List, [], ◌∷◌, ◌++◌, reverse, Option, Some, None, refl, sym, ap, subst, ◌∙◌, arith, append_assoc}
+use Rattle.std.proofs.Common.{◌≡◌, ℕ, ◌⊎◌, inl, inr, List, [], ◌∷◌, reverse, Option, Some, None, refl, sym, ap, subst, ◌∙◌, arith}
 use Rattle.std.specs.Prelude.{option_map, option_and_then}
 use Rattle.std.specs.Option.{unwrap_or}
 use Rattle.std.proofs.lemmas.Bool.Decides.{nat_tests}
-use Rattle.std.proofs.lemmas.List.{append-nil, reverse-append, reverse-reverse}
+use Rattle.std.proofs.lemmas.List.{reverse-reverse}
 use Rattle.lg_shape.specs.Shapes.{joined_extent, joined_axes, joined_shape}
-use Rattle.lg_session.specs.Lending.{FitsOver, SpreadsTo}
+use Rattle.lg_session.specs.Lending.{SpreadsTo}
 
 -- the same axis by axis from the last one, where axes may be missing
 abbrev pub FitsFromLast : List ℕ → List ℕ → Type 0
@@ -58,30 +58,21 @@ fits_through (x ∷ a) [] c h k = elim h [ ]
 fits_through (x ∷ a) (y ∷ b) [] h k = elim k [ ]
 fits_through (x ∷ a) (y ∷ b) (z ∷ c) h k = (through x y z h.0 k.0, fits_through a b c h.1 k.1)
 
--- ---- from the first axis on
+-- ---- as the definition has it
 
-fits_last : (shape back : List ℕ) (x y : ℕ) → FitsOver shape back → (x ≡ y) ⊎ (x ≡ 1) → FitsOver (shape ++ x ∷ []) (back ++ y ∷ [])
-fits_last [] [] x y h k = (k, tt)
-fits_last [] (b ∷ back) x y h k = elim h [ ]
-fits_last (a ∷ shape) [] x y h k = elim h [ ]
-fits_last (a ∷ shape) (b ∷ back) x y h k = (h.0, fits_last shape back x y h.1 k)
+extent_joins : (x y : ℕ) → (x ≡ y) ⊎ (x ≡ 1) → joined_extent x y ≡ Some y
+extent_joins x y (inl e) = grind (arith, nat_tests)
+extent_joins x y (inr e) = grind (arith, nat_tests)
 
-spreads_reversed : (shape to : List ℕ) → FitsFromLast shape to → SpreadsTo (reverse shape) (reverse to)
-spreads_reversed [] to h = record { front = reverse to; back = []; split = sym (append-nil (reverse to)); fits = tt }
-spreads_reversed (x ∷ shape) [] h = elim h [ ]
-spreads_reversed (x ∷ shape) (y ∷ to) h =
-    let s = spreads_reversed shape to h.1 in
-    let last : reverse (x ∷ shape) ≡ reverse shape ++ x ∷ [] = reverse-append (x ∷ []) shape in
-    record {
-      front = s.front;
-      back = s.back ++ y ∷ [];
-      split = reverse-append (y ∷ []) to ∙ ap (λ l. l ++ y ∷ []) s.split ∙ append_assoc s.front s.back (y ∷ []);
-      fits = subst (λ l. FitsOver l (s.back ++ y ∷ [])) (sym last) (fits_last (reverse shape) s.back x y s.fits h.0);
-    }
+fits_join : (shape to : List ℕ) → FitsFromLast shape to → joined_axes shape to ≡ Some to
+fits_join [] to h = refl
+fits_join (x ∷ shape) [] h = elim h [ ]
+fits_join (x ∷ shape) (y ∷ to) h =
+    ap (option_and_then (λ extent. option_map (λ extents. extent ∷ extents) (joined_axes shape to))) (extent_joins x y h.0)
+    ∙ ap (option_map (λ extents. y ∷ extents)) (fits_join shape to h.1)
 
 pub spreads : (shape to : List ℕ) → FitsFromLast (reverse shape) (reverse to) → SpreadsTo shape to
-spreads shape to h =
-    subst (λ l. SpreadsTo shape l) (reverse-reverse to) (subst (λ l. SpreadsTo l (reverse (reverse to))) (reverse-reverse shape) (spreads_reversed (reverse shape) (reverse to) h))
+spreads shape to h = ap (option_map reverse) (fits_join (reverse shape) (reverse to) h) ∙ ap Some (reverse-reverse to)
 
 pub joined_spreads : (a b s : List ℕ) → joined_shape a b ≡ Some s → SpreadsTo a s × SpreadsTo b s
 joined_spreads a b s e = let h = joined_fits a b s e in (spreads a s h.0, spreads b s h.1)
@@ -97,4 +88,4 @@ pub same_spreads : (shape : List ℕ) → SpreadsTo shape shape
 same_spreads shape = spreads shape shape (same_fits (reverse shape))
 
 pub no_axes_spread : (shape : List ℕ) → SpreadsTo [] shape
-no_axes_spread shape = record { front = shape; back = []; split = sym (append-nil shape); fits = tt }
+no_axes_spread shape = ap Some (reverse-reverse shape)

@@ -14,14 +14,28 @@ pub mod StepLemmas
 mod LimitLemmas
 mod Rows
 mod Tilings
+mod Pieces
 mod Fits
 mod Spreads
 mod Shapes
 mod Lendings
+mod Gatherings
+mod Indexed
+mod Windows
+pub mod ViewLemmas
+pub mod AxesLemmas
+pub mod Picked
+pub mod ViewedLemmas
+pub mod Repeatings
+pub mod IndexLemmas
+pub mod Turnings
+pub mod PartLemmas
+pub mod Viewings
 mod Joins
 mod Statics
 mod Values
 mod Made
 mod Written
+pub mod LoopLemmas
 pub mod StatementLemmas
 pub mod Printing

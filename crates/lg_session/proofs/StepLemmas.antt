@@ -1,5 +1,5 @@
 -- The session stands for the state of the definition after a statement.
-use Rattle.std.proofs.Common.{◌≡◌, ◌≢◌, ℕ, suc, zero, ◌<◌, Bool, true, false, cond, ◌⊎◌, ⊎_elim, List, [], ◌∷◌, ◌++◌, length, map, get_or, Option, None, Some, IsSomeAnd, option_map, refl, sym, ap, subst, ◌∙◌, ℤ, pos, bytes_eq, if◌then◌else◌, slice_get, arith}
+use Rattle.std.proofs.Common.{◌≡◌, ℕ, suc, zero, Bool, true, false, cond, ⊎_elim, List, [], ◌∷◌, ◌++◌, length, map, get_or, Option, None, Some, IsSomeAnd, option_map, refl, sym, ap, subst, ◌∙◌, ℤ, pos, bytes_eq, if◌then◌else◌, slice_get, arith}
 use Rattle.std.specs.List.{range_with_len}
 use Rattle.std.specs.Cmp.Lexicographic.{nat_list_cmp_total, nat_list_eq_equiv}
 use Rattle.std.specs.FinMap.{get, insert, get-insert}
@@ -18,7 +18,7 @@ use Rattle.lg_meaning.specs.Sharing.{shared_view}
 use Rattle.lg_meaning.specs.Step.{rebound as rebound_state, newly_bound, bound_as, bound_to}
 use Rattle.lg_session.specs.Worlds.{Roots, Names, Place, number_at, shown_in, put, SameBound, Linked, Stands, IsInside, AreInside}
 use Rattle.lg_session.specs.Names.{view_of, bound_of, bound_at, environment}
-use Rattle.lg_session.specs.Stored.{IsWholeOf, AreHeld}
+use Rattle.lg_session.specs.Stored.{IsViewOf, IsWholeOf, AreHeld}
 use Rattle.lg_session.specs.Standing.{Represents, roots_in, names_in}
 use Rattle.lg_session.proofs.Links.{number_kept, put_bound, put_linked, BoundLinked, rebound, freshly_bound, NoRepeat, range_place, range_no_repeat, linked_there}
 use Rattle.lg_session.proofs.HeldLemmas.{shown_whole}
@@ -52,18 +52,14 @@ environment_set old new word b set w = ap (option_map bound_of) (set w) ∙ by_t
 abbrev pub Keeps : Roots → Roots → CodeNames → Type 0
 Keeps A C names = (w : List ℕ) (view : CodeView) → bound_at names w ≡ Some (Array view) → C view.root ≡ A view.root
 
--- a view of a whole root lies in it
-inside_held : (A : Roots) (view : CodeView) (o : Option Root) → A view.root ≡ o → IsSomeAnd o (IsWholeOf view) → IsInside A (view_of view)
+-- a view that is held lies in its root
+pub inside_held : (A : Roots) (view : CodeView) (o : Option Root) → A view.root ≡ o → IsSomeAnd o (IsViewOf view) → IsInside A (view_of view)
 inside_held A view None is h = absurd h
 inside_held A view (Some root) is h = record {
   root = root;
   held = is;
   dtype = h.dtype;
-  places = λ i place at.
-      let range : slice_get (range_with_len 0 (size_of root.shape)) i ≡ Some place = ap (λ l. slice_get l i) (sym h.places) ∙ at in
-      let same : place ≡ i = range_place (size_of root.shape) i place range in
-      let below : i < length (range_with_len 0 (size_of root.shape)) = slice_get_within (range_with_len 0 (size_of root.shape)) i place range in
-      omega (arith, length-range_with_len 0 (size_of root.shape), h.full);
+  places = h.inside;
 }
 
 pub inside_code : (A : Roots) (names : CodeNames) → AreHeld A names → AreInside A (environment names)
@@ -161,7 +157,7 @@ module _ (A C : Roots) (old new : CodeNames) (state : State) (word : List ℕ) (
     (set : (w : List ℕ) → bound_at new w ≡ (if bytes_eq word w then Some (Array view) else bound_at old w))
     (keeps : (w : List ℕ) (other : CodeView) → bound_at new w ≡ Some (Array other) → (view.root ≡ other.root → ⊥) → C other.root ≡ A other.root) where
   size : length root.numbers ≡ size_of (view_of view).kind.shape
-  size = whole.full ∙ ap size_of (sym whole.shape)
+  size = whole.of_root.full ∙ ap size_of (sym whole.shape)
 
   places : (view_of view).places ≡ range_with_len 0 (size_of (view_of view).kind.shape)
   places = whole.places ∙ ap (λ s. range_with_len 0 (size_of s)) (sym whole.shape)

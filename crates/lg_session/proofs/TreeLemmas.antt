@@ -3,10 +3,11 @@ use Rattle.std.proofs.Common.{◌≡◌, ℕ, List, Option, Result, map, rules, 
 use Rattle.lg_elem.specs.declared.dtype.DType.{DType}
 use Rattle.lg_elem.specs.declared.kinds.Compare.{Compare as CompareKind}
 use Rattle.lg_tree.specs.declared.kinds.Arith.{Arith as ArithKind}
-use Rattle.lg_tree.specs.Tree.{Tree, arith, compare, full, zeros, ones, arange, array, minimum, maximum, choose, one, tuple, leaf, list, bind, print}
-use Rattle.lg_tree.specs.View.{tree_of, trees, list_of, shape_of, maybe_tree, list_trees, statement_of}
-use Rattle.lg_tree.specs.declared.trees.Expr.{Expr, Arith, Compare, Full, Zeros, Ones, Arange, Array, Minimum, Maximum, Where, the_lemmas}
+use Rattle.lg_tree.specs.Tree.{Tree, arith, compare, full, zeros, ones, arange, array, minimum, maximum, choose, transpose, one, tuple, leaf, list, bind, print, index, at, slice, new_axis, ellipsis, broadcast_to}
+use Rattle.lg_tree.specs.View.{tree_of, trees, list_of, shape_of, maybe_tree, maybe_shape, list_trees, statement_of, item_of, item_trees}
+use Rattle.lg_tree.specs.declared.trees.Expr.{Expr, Arith, Compare, Full, Zeros, Ones, Arange, Array, Minimum, Maximum, Where, Transpose, the_lemmas, Index, BroadcastTo}
 use Rattle.lg_tree.specs.declared.trees.ShapeExpr.{ShapeExpr, One, Tuple}
+use Rattle.lg_tree.specs.declared.trees.Item.{Item, At, Slice, NewAxis, Ellipsis}
 use Rattle.lg_tree.specs.declared.trees.ListExpr.{ListExpr, Leaf, List as Listed}
 use Rattle.lg_tree.specs.declared.trees.Statement.{Bind, Print}
 use Rattle.lg_tree.specs.declared.trees.Statement as statement
@@ -45,6 +46,28 @@ tree-Array l t = search (rules, the_lemmas)
 
 pub tree-Arange : (m : Option Expr) (b : Expr) (t : Option DType) → tree_of (Arange m b t) ≡ arange (maybe_tree (option_map tree_of m)) (tree_of b) t
 tree-Arange m b t = search (rules, the_lemmas)
+
+pub tree-Transpose : (a : Expr) (s : Option ShapeExpr) → tree_of (Transpose a s) ≡ transpose (tree_of a) (maybe_shape (option_map shape_of s))
+tree-Transpose a s = search (rules, the_lemmas)
+
+pub tree-Index : (a : Expr) (is : List Item) → tree_of (Index a is) ≡ index (tree_of a) (item_trees (map item_of is))
+tree-Index a is = search (rules, the_lemmas)
+
+pub item-At : (e : Expr) → item_of (At e) ≡ at (tree_of e)
+item-At e = search (rules, the_lemmas)
+
+pub item-Slice : (start stop step : Option Expr)
+    → item_of (Slice start stop step) ≡ slice (maybe_tree (option_map tree_of start)) (maybe_tree (option_map tree_of stop)) (maybe_tree (option_map tree_of step))
+item-Slice start stop step = search (rules, the_lemmas)
+
+pub item-NewAxis : item_of NewAxis ≡ new_axis
+item-NewAxis = search (rules, the_lemmas)
+
+pub item-Ellipsis : item_of Ellipsis ≡ ellipsis
+item-Ellipsis = search (rules, the_lemmas)
+
+pub tree-BroadcastTo : (a : Expr) (s : ShapeExpr) → tree_of (BroadcastTo a s) ≡ broadcast_to (tree_of a) (shape_of s)
+tree-BroadcastTo a s = search (rules, the_lemmas)
 
 pub shape-One : (e : Expr) → shape_of (One e) ≡ one (tree_of e)
 shape-One e = search (rules, the_lemmas)

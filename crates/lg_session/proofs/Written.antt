@@ -37,9 +37,10 @@ use Rattle.lg_session.specs.declared.operations.end.EvaluateEnd.{EvaluateEnd}
 use Rattle.lg_session.specs.declared.operations.end.EvaluateEnd.TheVariants.{Fault, NoMemory}
 use Rattle.lg_session.specs.Operations.{weak_of, IsRanged, IsMade}
 use Rattle.lg_session.specs.Ruling.{IsNew}
+use Rattle.lg_tile.proofs.SectionLemmas.{map-map}
 use Rattle.lg_session.proofs.Rows.{one_each}
 use Rattle.lg_session.proofs.Statics.{kind_with, needing_ok, made_ok, has_number_is}
-use Rattle.lg_session.proofs.Values.{map-map, by_places}
+use Rattle.lg_session.proofs.Indexed.{by_places}
 use Rattle.lg_session.proofs.Made.{array_made, value_of_parts}
 
 -- ---- lists of weak numbers

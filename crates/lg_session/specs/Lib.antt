@@ -12,5 +12,13 @@ pub mod Session
 pub mod Ruling
 pub mod Cutting
 pub mod Lending
+pub mod Gathering
+pub mod Pieces
+pub mod Parts
+pub mod Viewed
+pub mod Turned
+pub mod Forms
 pub mod Ends
+pub mod Turns
 pub mod Built
+pub mod Repeating

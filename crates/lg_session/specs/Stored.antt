@@ -1,8 +1,9 @@
 -- What the code keeps of what names stand for.
-use Rattle.std.specs.Prelude.{◌≡◌, ℕ, List, length, None, Some, IsSomeAnd}
+use Rattle.std.specs.Prelude.{◌≡◌, ◌<◌, ◌≤◌, ℕ, List, length, None, Some, IsSomeAnd, slice_get}
 use Rattle.std.specs.List.{range_with_len}
 use Rattle.lg_store.specs.declared.view.View.{View}
-use Rattle.lg_xform.specs.Chains.{layout_of, shape_of}
+use Rattle.lg_space.specs.Stored.{MAX_VOLUME}
+use Rattle.lg_xform.specs.Chains.{layout_of, shape_of, root_of, inner_of, IsUnsplit}
 use Rattle.lg_shape.specs.Shapes.{size_of}
 use Rattle.lg_meaning.specs.Memory.{Root}
 use Rattle.lg_session.specs.Operations.{weak_of, IsRanged}
@@ -13,16 +14,32 @@ use Rattle.lg_session.specs.declared.names.Bound.TheVariants.{Weak, Array}
 use Rattle.lg_session.specs.declared.names.Names.{Names}
 use Rattle.lg_session.specs.declared.operations.values.Weak.{Weak as CodeWeak}
 
--- the root has the view's type, and the view is the whole of it
-pub record IsWholeOf (view : View) (root : Root) : Type 0 where
+-- the root has the view's type, and the view's chain leads into it: each of its places is one of
+-- the root. No axis of it was split, so that indices can pick among its elements, and it has no
+-- more elements than a tile can have
+pub record IsViewOf (view : View) (root : Root) : Type 0 where
   pub dtype : root.dtype ≡ view.dtype
+  pub shape : root_of view.chain ≡ root.shape
+  pub full : length root.numbers ≡ size_of root.shape
+  pub small : size_of (shape_of view.chain) ≤ MAX_VOLUME
+  pub unsplit : IsUnsplit (inner_of view.chain)
+  pub inside : (index place : ℕ) → slice_get (layout_of view.chain).places index ≡ Some place
+      → place < length root.numbers
+
+-- it is a view of some root
+pub record IsViewOfSome (view : View) : Type 0 where
+  pub root : Root
+  pub of_root : IsViewOf view root
+
+-- it is a view of the root, and the whole of it
+pub record IsWholeOf (view : View) (root : Root) : Type 0 where
+  pub of_root : IsViewOf view root
   pub shape : shape_of view.chain ≡ root.shape
   pub places : (layout_of view.chain).places ≡ range_with_len 0 (size_of root.shape)
-  pub full : length root.numbers ≡ size_of root.shape
 
 -- the view's root is there
 abbrev pub IsHeld : Roots → View → Type 0
-IsHeld roots view = IsSomeAnd (roots view.root) (IsWholeOf view)
+IsHeld roots view = IsSomeAnd (roots view.root) (IsViewOf view)
 
 abbrev pub IsStored : Roots → Bound → Type 0
 IsStored roots (Weak w) = IsRanged (weak_of w)

@@ -1,7 +1,7 @@
 //! Worked examples of the definitions. Each clause is computed by the check.
 ghost use Rattle.std.specs.Prelude.{◌≡◌, codes, None, Some, true, false, [], ◌∷◌};
 ghost use Rattle.lg_tree.specs.declared.kinds.Arith.TheVariants.{Add};
-ghost use Rattle.lg_tree.specs.Tree.{number, name, neg, arith, matmul, zeros, arange, array, choose, copy, some_tree, no_tree, no_trees, more_trees, tuple, leaf, list, no_lists, more_lists, bind, print, loop, load, no_lines, more_lines};
+ghost use Rattle.lg_tree.specs.Tree.{number, name, neg, arith, matmul, zeros, arange, array, choose, index, transpose, broadcast_to, copy, some_tree, no_tree, no_trees, more_trees, one, tuple, no_shape, some_shape, at, slice, new_axis, ellipsis, no_items, more_items, leaf, list, no_lists, more_lists, bind, print, loop, load, no_lines, more_lines};
 ghost use Rattle.lg_session.specs.Built.{is_built_tree, is_built, first_unbuilt};
 
 /// Which forms a session evaluates so far: each part has to be one of them, wherever it stands.
@@ -21,15 +21,54 @@ pub fn built_by_example()
         (list (more_lists (leaf (number 1)) no_lists)) no_lists)) None) ≡ true }
     ensures member { is_built_tree (array (list (more_lists
         (list (more_lists (leaf (copy (number 1))) no_lists)) no_lists)) None) ≡ false }
+    ensures items { is_built_tree (index (name (codes "a")) (more_items (at (number 0))
+        (more_items (slice no_tree (some_tree (number 4)) (some_tree (neg (number 1))))
+        (more_items new_axis (more_items ellipsis no_items))))) ≡ true }
+    ensures place { is_built_tree (index (name (codes "a")) (more_items new_axis
+        (more_items (at (copy (number 0))) no_items))) ≡ false }
+    ensures stop { is_built_tree (index (name (codes "a")) (more_items
+        (slice no_tree (some_tree (copy (number 4))) no_tree) no_items)) ≡ false }
+    ensures step { is_built_tree (index (name (codes "a")) (more_items
+        (slice no_tree no_tree (some_tree (copy (number 2)))) no_items)) ≡ false }
+    ensures indexed { is_built_tree (index (copy (name (codes "a")))
+        (more_items (at (number 0)) no_items)) ≡ false }
+    ensures turned { is_built_tree (transpose (name (codes "a")) no_shape) ≡ true }
+    ensures axes { is_built_tree (transpose (name (codes "a"))
+        (some_shape (tuple (more_trees (number 1) (more_trees (number 0) no_trees))))) ≡ true }
+    ensures axis { is_built_tree (transpose (name (codes "a"))
+        (some_shape (tuple (more_trees (number 1) (more_trees (copy (number 0)) no_trees)))))
+        ≡ false }
+    ensures repeated { is_built_tree (broadcast_to (name (codes "a"))
+        (tuple (more_trees (number 2) (more_trees (number 3) no_trees)))) ≡ true }
+    ensures repeated_extent { is_built_tree (broadcast_to (name (codes "a"))
+        (one (copy (number 2)))) ≡ false }
+    ensures repeated_copy { is_built_tree (broadcast_to (copy (name (codes "a")))
+        (one (number 2))) ≡ false }
     ensures bound_name { is_built (bind (codes "a") (number 1)) ≡ true }
     ensures file { is_built (load (codes "a") (codes "b")) ≡ false }
     ensures none { first_unbuilt (record { number = 2; statement = print (number 1) } ∷ [])
         ≡ None }
-    ensures at_loop { first_unbuilt (record { number = 2; statement = print (number 1) }
+    ensures in_block { first_unbuilt (record { number = 2; statement = print (number 1) }
         ∷ record {
           number = 4;
           statement = loop (codes "k") no_tree (number 2)
               (more_lines 5 (print (copy (number 1))) no_lines);
         }
-        ∷ record { number = 6; statement = print (copy (number 1)) } ∷ []) ≡ Some 4 }
+        ∷ record { number = 6; statement = print (copy (number 1)) } ∷ []) ≡ Some 5 }
+    ensures at_bounds { first_unbuilt (record {
+      number = 4;
+      statement = loop (codes "k") (some_tree (copy (number 0))) (number 2)
+          (more_lines 5 (print (copy (number 1))) no_lines);
+    } ∷ []) ≡ Some 4 }
+    ensures behind_block { first_unbuilt (record {
+      number = 4;
+      statement = loop (codes "k") no_tree (number 2)
+          (more_lines 5 (print (number 1)) no_lines);
+    }
+        ∷ record { number = 6; statement = load (codes "a") (codes "b") } ∷ []) ≡ Some 6 }
+    ensures built_block { first_unbuilt (record {
+      number = 4;
+      statement = loop (codes "k") no_tree (number 2)
+          (more_lines 5 (print (number 1)) no_lines);
+    } ∷ []) ≡ None }
 {}

@@ -51,7 +51,8 @@ pub(crate) fn one_operand(
     ensures computed { IsComputed (unary_static op (value_static a.now))
         (unary_value op (value_in (contents session.now.roots) a.now)) result }
 {
-    Ok(Value::Fresh(unary(alloc, session.pieces, op, &session.operand(a))?))
+    let a = session.read(a);
+    Ok(Value::Fresh(unary(alloc, session.pieces, op, &a)?))
 }
 
 /// `a + b`, and so for each operation of two operands.
@@ -92,7 +93,7 @@ pub(crate) fn two_operands(
         (binary_value op (value_in (contents session.now.roots) a.now)
         (value_in (contents session.now.roots) b.now)) result }
 {
-    let (a, b) = (session.operand(a), session.operand(b));
+    let (a, b) = (session.read(a), session.read(b));
     Ok(Value::Fresh(binary(alloc, session.pieces, op, &a, &b)?))
 }
 
@@ -114,7 +115,7 @@ pub(crate) fn comparison(
     if let (Value::Weak(v), Value::Weak(w)) = (a, b) {
         return Ok(Value::Weak(weak_compare(op, *v, *w)));
     }
-    let (a, b) = (session.operand(a), session.operand(b));
+    let (a, b) = (session.read(a), session.read(b));
     Ok(Value::Fresh(compare(alloc, session.pieces, op, &a, &b)?))
 }
 
@@ -136,8 +137,8 @@ pub(crate) fn choice(
         (value_in (contents session.now.roots) a.now)
         (value_in (contents session.now.roots) b.now)) result }
 {
-    let condition = session.operand(condition);
-    let (a, b) = (session.operand(a), session.operand(b));
+    let condition = session.read(condition);
+    let (a, b) = (session.read(a), session.read(b));
     Ok(Value::Fresh(choose(alloc, session.pieces, &condition, &a, &b)?))
 }
 
@@ -236,8 +237,8 @@ pub(crate) fn listed_array(
     Ok(Value::Fresh(listed(alloc, session.pieces, &members.weaks, lent(&shape), dtype)?))
 }
 
-// Values as numbers that are extents.
-fn integers(alloc: Global, values: &[Value]) -> Result<Vec<i128>, EvaluateEnd>
+/// Values as numbers that are extents or axes: no truth value, and no array.
+pub(crate) fn integers(alloc: Global, values: &[Value]) -> Result<Vec<i128>, EvaluateEnd>
     ensures { AreIntegers values.now result }
 {
     let mut numbers = Vec::new(alloc);
@@ -249,7 +250,7 @@ fn integers(alloc: Global, values: &[Value]) -> Result<Vec<i128>, EvaluateEnd>
 }
 
 /// A value as a number that is an extent or a bound: no truth value, and no array.
-fn integer(value: &Value) -> Result<i128, EvaluateEnd>
+pub(crate) fn integer(value: &Value) -> Result<i128, EvaluateEnd>
     ensures value { MatchResult result (λ x. value.now ≡ Value.Weak (Weak.Integer x))
         (λ end. (end ≡ EvaluateEnd.Fault FaultKind.TypeKind)
         × (integer_of (value_static value.now) ≡ Err FaultKind.TypeKind)) }

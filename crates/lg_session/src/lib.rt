@@ -2,18 +2,25 @@
 //! statement after another.
 #![tactic(auto)]
 
+mod axes;
 mod built;
 mod evaluation;
 mod examples;
 mod forms;
 mod lists;
+mod loops;
 mod names;
 pub mod operations;
+mod repeating;
 mod roots;
 mod session;
 mod text;
+mod turning;
 mod value;
+mod viewing;
+mod views;
 
 pub use built::{first_unbuilt, is_built};
 pub use examples::built_by_example;
+pub use loops::Turns;
 pub use session::{Session, Stop, StopEnd};

@@ -8,7 +8,7 @@ ghost use Rattle.lg_meaning.specs.Run.{start};
 ghost use Rattle.lg_meaning.specs.Step.{newly_bound};
 ghost use Rattle.lg_session.specs.Names.{bound_at, view_of};
 ghost use Rattle.lg_session.specs.Roots.{contents, root_of};
-ghost use Rattle.lg_session.specs.Stored.{AreHeld, AreRanged, IsStored, IsWholeOf};
+ghost use Rattle.lg_session.specs.Stored.{AreHeld, AreRanged, IsHeld, IsStored, IsWholeOf};
 ghost use Rattle.lg_session.specs.Operations.{operand_static, operand_value, kind_of, fresh_kind, IsReady, IsWhole};
 
 use crate::evaluation::evaluate;
@@ -35,7 +35,7 @@ pub struct Session {
     pub(crate) pieces: u32,
     pub(crate) names: Names,
     pub(crate) roots: Roots,
-    spent: bool,
+    pub(crate) spent: bool,
     ghost least: { 1 ≤ pieces },
     ghost most: { pieces ≤ 64 },
     ghost held: { AreHeld (contents roots) names } by { Prim.hlevel props },
@@ -73,6 +73,9 @@ impl Session {
     ghost use Rattle.lg_session.specs.Built.{is_built, is_built_tree};
     ghost use Rattle.lg_session.specs.Session.{Performs, StopsAt, IsExecuted, IsBound, IsText, IsTidyAt, is_spent, pieces_of};
     ghost use Rattle.lg_session.specs.Values.{value_static, value_in, IsUsable, Means};
+    ghost use Rattle.lg_session.specs.Worlds.{shown_in};
+    ghost use Rattle.lg_meaning.specs.Static.{array_value};
+    ghost use Rattle.lg_meaning.specs.Value.{plain};
 
     /// A session in which no name is bound, and which cuts each operation into at most so many
     /// tiles. It takes no memory yet.
@@ -162,7 +165,7 @@ impl Session {
             → IsText (tree_of value.now) state result }
     {
         let value = evaluate(alloc, self, value)?;
-        printed_operand(alloc, &self.operand(&value))
+        printed_operand(alloc, &self.read(&value))
     }
 
     // Lets a name stand for the value of an expression, which is computed first.
@@ -225,8 +228,8 @@ impl Session {
         }
     }
 
-    /// A value as an operand, read where it lies.
-    pub(crate) fn operand<'a>(&'a self, value: &'a Value) -> Operand<'a>
+    /// A value as an operation reads it.
+    pub(crate) fn read<'a>(&'a self, value: &'a Value) -> Operand<'a>
         requires { IsUsable (contents self.now.roots) value.now }
         ensures kind { operand_static result ≡ value_static value.now }
         ensures same { operand_value result ≡ value_in (contents self.now.roots) value.now }
@@ -234,11 +237,7 @@ impl Session {
     {
         match value {
             Value::Weak(w) => Operand::Weak(*w),
-            Value::Shown(view) => Operand::Array {
-                tile: self.roots.tile(view.root),
-                right: view.right,
-                fault: None,
-            },
+            Value::Shown(view) => self.read_view(view),
             Value::Fresh(fresh) => Operand::Array {
                 tile: &fresh.tile,
                 right: fresh.right,
@@ -247,9 +246,24 @@ impl Session {
         }
     }
 
-    // Lets a name stand for this. The root that the name stood for is forgotten where no name
-    // reaches it any more.
-    fn bind(&mut self, word: &[u8], bound: Bound) -> Result<(), AllocError>
+    // A view as an operation reads it.
+    fn read_view<'a>(&'a self, view: &'a View) -> Operand<'a>
+        requires { IsHeld (contents self.now.roots) view.now }
+        ensures kind { operand_static result ≡ array_value (view_of view.now).kind }
+        ensures same { operand_value result
+            ≡ plain (view_of view.now).kind.shape (shown_in (contents self.now.roots) (view_of view.now)) }
+        ensures ready { IsReady result }
+    {
+        Operand::View {
+            tile: self.roots.tile(view.root),
+            chain: &view.chain,
+            right: view.right,
+        }
+    }
+
+    /// Lets a name stand for this. The root that the name stood for is forgotten where no name
+    /// reaches it any more.
+    pub(crate) fn bind(&mut self, word: &[u8], bound: Bound) -> Result<(), AllocError>
         requires { IsStored (contents self.old.roots) bound }
         ensures set { OnOk result ((w : List ℕ) → bound_at self.new.names w
             ≡ (if bytes_eq word.now w then Some bound else bound_at self.old.names w)) }
@@ -287,8 +301,8 @@ impl Session {
 impl StopEnd {
     ghost use Rattle.lg_session.specs.Ends.{stop_at};
 
-    // An end of the statement of a line.
-    fn at(line: u64, end: EvaluateEnd) -> StopEnd
+    /// An end of the statement of a line.
+    pub(crate) fn at(line: u64, end: EvaluateEnd) -> StopEnd
         ensures { result ≡ stop_at line end }
     {
         match end {
@@ -305,10 +319,14 @@ fn whole_view(tile: &AnyTile, right: Right) -> View
     ensures kind { (view_of result).kind ≡ kind_of tile.now right }
 {
     full_tiles();
+    // What is known of every rectangle and of every chain is told with its ranges and its root.
+    let _limits = tile.rect().ranges();
+    let chain = Chain::whole(&shape_in(tile));
+    let _root = chain.root();
     View {
         root: 0,
         dtype: tile.dtype(),
-        chain: Chain::whole(&shape_in(tile)),
+        chain,
         right,
     }
 }

@@ -10,7 +10,7 @@ ghost use Rattle.lg_meaning.specs.Text.{element_text, nested, printed, printed_t
 ghost use Rattle.lg_session.specs.Operations.{weak_of, extents_of, operand_static, operand_value, IsReady, IsWhole};
 ghost use Rattle.lg_session.specs.Texts.{comma, truth_text, IsPrinted};
 
-use crate::operations::{EvaluateEnd, Operand, Weak, shape_in};
+use crate::operations::{EvaluateEnd, Operand, Weak, gather, shape_in};
 use itoa::Buffer;
 use lg_elem::{DType, Elem};
 use lg_shape::Shape;
@@ -34,6 +34,10 @@ pub(crate) fn printed_operand(alloc: Global, operand: &Operand<'_>) -> Result<Ve
             }
             Ok(printed_array(alloc, tile)?)
         }
+        Operand::View { tile, chain, .. } => Ok(printed_array(
+            alloc,
+            &gather(alloc, tile, chain)?,
+        )?),
     }
 }
 

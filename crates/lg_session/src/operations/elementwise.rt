@@ -5,8 +5,9 @@ ghost use Rattle.lg_meaning.specs.Operators.{binary_static, compare_static, unar
 ghost use Rattle.lg_session.specs.Operations.{operand_static, operand_value, IsReady, right_for, IsArray, IsMade};
 
 use crate::operations::end::EvaluateEnd;
-use crate::operations::lending::{evaluate_lent, lend};
+use crate::operations::lending::{Inputs, Lent, lend};
 use crate::operations::rules::{rule_of_binary, rule_of_choose, rule_of_compare, rule_of_unary};
+use crate::operations::tiling::evaluate;
 use crate::operations::values::{Fresh, Operand};
 use lg_elem::{Binary, Compare, Flag, Unary};
 use lg_map::MapOp;
@@ -57,12 +58,12 @@ fn result_of(tile: AnyTile, shape: &Shape, fault: Option<FaultKind>) -> Fresh
 /// # Errors
 ///
 /// The first static fault, and `NoMemory`. A fault of elements is told beside the array.
-pub fn binary(
+pub fn binary<'a>(
     alloc: Global,
     pieces: u32,
     op: Binary,
-    a: &Operand<'_>,
-    b: &Operand<'_>,
+    a: &Operand<'a>,
+    b: &Operand<'a>,
 ) -> Result<Fresh, EvaluateEnd>
     requires some { 1 ≤ pieces }
     requires few { pieces ≤ 64 }
@@ -73,10 +74,14 @@ pub fn binary(
 {
     common_is_least();
     let (t, shape) = rule_of_binary(op, a, b)?;
-    let x = lend(alloc, a, &shape)?;
-    let y = lend(alloc, b, &shape)?;
-    let map = MapOp::Binary(op, x.operand(0), y.operand(1));
-    let (tile, flag) = evaluate_lent(alloc, pieces, &map, (&x, &y, &y), &shape, t)?;
+    let (first, second) = (lend(a, &shape), lend(b, &shape));
+    let map = MapOp::Binary(op, first.operand(0), second.operand(1));
+    let inputs = Inputs {
+        first,
+        second,
+        third: Lent::Number(0),
+    };
+    let (tile, flag) = evaluate(alloc, pieces, &map, &inputs, &shape, t)?;
     Ok(result_of(tile, &shape, first_fault(a, b, fault_of(flag))))
 }
 
@@ -86,12 +91,12 @@ pub fn binary(
 /// # Errors
 ///
 /// The first static fault, and `NoMemory`. A fault of elements is told beside the array.
-pub fn compare(
+pub fn compare<'a>(
     alloc: Global,
     pieces: u32,
     op: Compare,
-    a: &Operand<'_>,
-    b: &Operand<'_>,
+    a: &Operand<'a>,
+    b: &Operand<'a>,
 ) -> Result<Fresh, EvaluateEnd>
     requires some { 1 ≤ pieces }
     requires few { pieces ≤ 64 }
@@ -102,10 +107,14 @@ pub fn compare(
         (compare_value op (operand_value a.now) (operand_value b.now)) result }
 {
     let (t, shape) = rule_of_compare(op, a, b)?;
-    let x = lend(alloc, a, &shape)?;
-    let y = lend(alloc, b, &shape)?;
-    let map = MapOp::Compare(op, x.operand(0), y.operand(1));
-    let (tile, _) = evaluate_lent(alloc, pieces, &map, (&x, &y, &y), &shape, t)?;
+    let (first, second) = (lend(a, &shape), lend(b, &shape));
+    let map = MapOp::Compare(op, first.operand(0), second.operand(1));
+    let inputs = Inputs {
+        first,
+        second,
+        third: Lent::Number(0),
+    };
+    let (tile, _) = evaluate(alloc, pieces, &map, &inputs, &shape, t)?;
     Ok(result_of(tile, &shape, first_fault(a, b, None)))
 }
 
@@ -121,9 +130,14 @@ pub fn unary(alloc: Global, pieces: u32, op: Unary, a: &Operand<'_>) -> Result<F
     ensures { IsMade (unary_static op (operand_static a.now)) (unary_value op (operand_value a.now)) result }
 {
     let (t, shape) = rule_of_unary(op, a)?;
-    let x = lend(alloc, a, &shape)?;
-    let map = MapOp::Unary(op, x.operand(0));
-    let (tile, _) = evaluate_lent(alloc, pieces, &map, (&x, &x, &x), &shape, t)?;
+    let first = lend(a, &shape);
+    let map = MapOp::Unary(op, first.operand(0));
+    let inputs = Inputs {
+        first,
+        second: Lent::Number(0),
+        third: Lent::Number(0),
+    };
+    let (tile, _) = evaluate(alloc, pieces, &map, &inputs, &shape, t)?;
     Ok(result_of(tile, &shape, a.fault()))
 }
 
@@ -133,12 +147,12 @@ pub fn unary(alloc: Global, pieces: u32, op: Unary, a: &Operand<'_>) -> Result<F
 /// # Errors
 ///
 /// The first static fault, and `NoMemory`. A fault of elements is told beside the array.
-pub fn choose(
+pub fn choose<'a>(
     alloc: Global,
     pieces: u32,
-    c: &Operand<'_>,
-    a: &Operand<'_>,
-    b: &Operand<'_>,
+    c: &Operand<'a>,
+    a: &Operand<'a>,
+    b: &Operand<'a>,
 ) -> Result<Fresh, EvaluateEnd>
     requires some { 1 ≤ pieces }
     requires few { pieces ≤ 64 }
@@ -151,10 +165,14 @@ pub fn choose(
 {
     common_is_least();
     let (t, shape) = rule_of_choose(c, a, b)?;
-    let w = lend(alloc, c, &shape)?;
-    let x = lend(alloc, a, &shape)?;
-    let y = lend(alloc, b, &shape)?;
-    let map = MapOp::Select(w.operand(0), x.operand(1), y.operand(2));
-    let (tile, _) = evaluate_lent(alloc, pieces, &map, (&w, &x, &y), &shape, t)?;
+    let first = lend(c, &shape);
+    let (second, third) = (lend(a, &shape), lend(b, &shape));
+    let map = MapOp::Select(first.operand(0), second.operand(1), third.operand(2));
+    let inputs = Inputs {
+        first,
+        second,
+        third,
+    };
+    let (tile, _) = evaluate(alloc, pieces, &map, &inputs, &shape, t)?;
     Ok(result_of(tile, &shape, first_fault(c, a, b.fault())))
 }

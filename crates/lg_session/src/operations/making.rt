@@ -10,6 +10,7 @@ ghost use Rattle.lg_session.specs.Operations.{weak_of, IsMade, IsRanged};
 ghost use Rattle.lg_session.specs.Ruling.{IsNew};
 
 use crate::operations::end::EvaluateEnd;
+use crate::operations::lending::{Inputs, Lent};
 use crate::operations::tiling::evaluate;
 use crate::operations::values::{Fresh, Weak};
 use crate::operations::weak::number;
@@ -149,7 +150,12 @@ fn evaluate_new(
     requires map { IsMap op.now [] (whole shape.now) t }
     ensures { IsNew op.now t shape.now result }
 {
-    let (tile, _) = evaluate(alloc, pieces, op, &[], shape, t)?;
+    let none = Inputs {
+        first: Lent::Number(0),
+        second: Lent::Number(0),
+        third: Lent::Number(0),
+    };
+    let (tile, _) = evaluate(alloc, pieces, op, &none, shape, t)?;
     Ok(Fresh {
         tile,
         right: Right::Writable,

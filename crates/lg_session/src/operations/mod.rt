@@ -2,10 +2,13 @@
 
 mod elementwise;
 mod end;
+mod gathering;
 mod lending;
 mod limits;
 mod making;
+mod parts;
 mod rules;
+mod scalar;
 mod tiling;
 mod values;
 mod weak;
@@ -13,10 +16,13 @@ mod written;
 
 pub use elementwise::{binary, choose, compare, unary};
 pub use end::EvaluateEnd;
+pub(crate) use gathering::gather;
 pub use making::{counted, full, listed, ones, zeros};
 pub(crate) use rules::shape_in;
+pub use scalar::scalar_array;
 pub use values::{Fresh, Operand, Weak};
 pub use weak::{weak_arith, weak_compare, weak_negative};
+pub(crate) use written::{is_shape, shape_within};
 
 #[cfg(test)]
 mod tests;

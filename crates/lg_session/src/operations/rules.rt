@@ -28,10 +28,12 @@ fn type_beside(other: &Operand<'_>, a: &Operand<'_>) -> DType
     ensures { result ≡ type_beside_of (operand_static other.now) (operand_static a.now) }
 {
     match a {
-        Operand::Array { tile, .. } => tile.dtype(),
+        Operand::Array { tile, .. } | Operand::View { tile, .. } => tile.dtype(),
         Operand::Weak(Weak::Truth(_)) => DType::Bool,
         Operand::Weak(Weak::Integer(_)) => match other {
-            Operand::Array { tile, .. } => integer_beside(tile.dtype()),
+            Operand::Array { tile, .. } | Operand::View { tile, .. } => {
+                integer_beside(tile.dtype())
+            }
             Operand::Weak(_) => DType::Int64,
         },
     }
@@ -42,7 +44,7 @@ fn type_alone(a: &Operand<'_>) -> DType
     ensures { result ≡ type_alone_of (operand_static a.now) }
 {
     match a {
-        Operand::Array { tile, .. } => tile.dtype(),
+        Operand::Array { tile, .. } | Operand::View { tile, .. } => tile.dtype(),
         Operand::Weak(Weak::Truth(_)) => DType::Bool,
         Operand::Weak(Weak::Integer(_)) => DType::Int64,
     }
@@ -65,7 +67,7 @@ fn fits(t: DType, a: &Operand<'_>) -> bool
 {
     match a {
         Operand::Weak(Weak::Integer(x)) => has_number(t, *x),
-        Operand::Weak(Weak::Truth(_)) | Operand::Array { .. } => true,
+        Operand::Weak(Weak::Truth(_)) | Operand::Array { .. } | Operand::View { .. } => true,
     }
 }
 
@@ -104,6 +106,7 @@ fn shape_of(a: &Operand<'_>) -> Shape
     match a {
         Operand::Weak(_) => Shape::new(&[]),
         Operand::Array { tile, .. } => shape_in(tile),
+        Operand::View { chain, .. } => chain.shape(),
     }
 }
 
@@ -158,8 +161,8 @@ pub fn rule_of_compare(
 {
     match a {
         Operand::Weak(_) => elementwise(DType::Bool, Ok(shape_of(b))),
-        Operand::Array { tile, .. } => {
-            elementwise(DType::Bool, broadcast(&shape_in(tile), &shape_of(b)))
+        Operand::Array { .. } | Operand::View { .. } => {
+            elementwise(DType::Bool, broadcast(&shape_of(a), &shape_of(b)))
         }
     }
 }
@@ -189,7 +192,7 @@ fn condition_fits(c: &Operand<'_>, a: &Operand<'_>, b: &Operand<'_>) -> bool
 {
     match (a, b) {
         (Operand::Weak(_), Operand::Weak(_)) => fits(type_alone(c), c),
-        (Operand::Weak(_), Operand::Array { .. }) | (Operand::Array { .. }, _) => true,
+        _ => true,
     }
 }
 

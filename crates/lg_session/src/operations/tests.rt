@@ -6,6 +6,8 @@ ghost use Rattle.lg_space.specs.Stored.{MAX_END};
 ghost use Rattle.lg_meaning.specs.Weak.{integer};
 ghost use Rattle.lg_session.specs.Operations.{IsArray, IsRanged, IsReady, IsWhole, weak_of};
 
+mod views;
+
 use crate::operations::rules::shape_in;
 use crate::operations::{
     EvaluateEnd, Fresh, Operand, Weak, binary, choose, compare, counted, full, listed, ones, unary,
@@ -132,7 +134,7 @@ fn gives<T: TileElem>(
     requires second { IsReady b.now }
 {
     for k in 0..3 {
-        let made = binary(alloc, pieces(k), op, a, b);
+        let made = binary(alloc, pieces(k), op, &*a, &*b);
         holds(
             rt,
             made,

@@ -4,6 +4,7 @@ ghost use Rattle.lg_session.specs.Operations.{operand_value};
 use lg_meaning::FaultKind;
 use lg_store::Right;
 use lg_tile::AnyTile;
+use lg_xform::Chain;
 
 /// A number or truth value that a script writes, or that follows from such alone. It takes the type
 /// of an array that it meets (NumPy's "NEP 50"). An integer is from -2 ^ 63 to 2 ^ 64 - 1.
@@ -26,6 +27,13 @@ pub enum Operand<'a> {
         /// The first fault of its elements, each of which is then 0.
         fault: Option<FaultKind>,
     },
+
+    /// A view of a root whose elements are a tile. They have no fault.
+    View {
+        tile: &'a AnyTile,
+        chain: &'a Chain,
+        right: Right,
+    },
 }
 
 impl Operand<'_> {
@@ -34,7 +42,7 @@ impl Operand<'_> {
         ensures { result ≡ (operand_value self.now).fault }
     {
         match self {
-            Operand::Weak(_) => None,
+            Operand::Weak(_) | Operand::View { .. } => None,
             Operand::Array { fault, .. } => *fault,
         }
     }

@@ -1,5 +1,5 @@
 //! Which type and shape an array has that a script writes, or which static fault it has.
-ghost use Rattle.std.specs.Prelude.{◌≡◌, ◌≤◌, ◌-ℤ◌, ◌&&◌, [], ◌∷◌, int_lt, length, map, pos, unsigned_abs, if◌then◌else◌, All, IfOk, IsTrue, Some};
+ghost use Rattle.std.specs.Prelude.{◌≡◌, ◌≤◌, ◌-ℤ◌, ◌&&◌, [], ◌∷◌, int_lt, length, map, pos, unsigned_abs, if◌then◌else◌, is_some, true, All, IfOk, IfSome, IsTrue, Some};
 ghost use Rattle.std.specs.Option.{option_copied};
 ghost use Rattle.lg_space.specs.Stored.{MAX_END, MAX_VOLUME};
 ghost use Rattle.lg_shape.specs.Shapes.{size_of};
@@ -7,8 +7,8 @@ ghost use Rattle.lg_meaning.specs.declared.fault.FaultKind.TheVariants.{Range};
 ghost use Rattle.lg_meaning.specs.Faults.{needing};
 ghost use Rattle.lg_meaning.specs.Weak.{number_of, integer};
 ghost use Rattle.lg_promote.specs.Literals.{is_number};
-ghost use Rattle.lg_meaning.specs.Static.{are_within, made as made_of};
-ghost use Rattle.lg_meaning.specs.Creation.{type_or as type_or_of, weak_type as weak_type_of, is_literal as is_literal_of, extents, are_extents as are_extents_of, shaped as shaped_of, full_static, arange_static, array_static, are_truths as are_truths_of, list_type as list_type_of, are_literals as are_literals_of};
+ghost use Rattle.lg_meaning.specs.Static.{are_within, is_within, made as made_of};
+ghost use Rattle.lg_meaning.specs.Creation.{type_or as type_or_of, weak_type as weak_type_of, is_literal as is_literal_of, extents, are_extents as are_extents_of, is_shape as is_shape_of, shaped as shaped_of, full_static, arange_static, array_static, are_truths as are_truths_of, list_type as list_type_of, are_literals as are_literals_of};
 ghost use Rattle.lg_session.specs.Operations.{weak_of, IsRanged};
 ghost use Rattle.lg_session.specs.Ruling.{ruled_new};
 
@@ -86,6 +86,33 @@ fn put_extents(kept: &mut [u64], written: &[i128]) -> bool
     put_extents(kept, written)
 }
 
+/// Whether what is written is a shape: no extent is below 0, and there are no more axes than an
+/// array may have.
+pub fn is_shape(written: &[i128]) -> bool
+    ensures { result ≡ is_shape_of written.now }
+{
+    written.len() <= MAX_AXES && are_extents(written)
+}
+
+/// The shape that is written, if an array may have it.
+pub fn shape_within(written: &[i128]) -> Option<Shape>
+    requires { is_shape_of written.now ≡ true }
+    ensures within { is_some result ≡ is_within (extents written.now) }
+    ensures value { IfSome result (λ shape. shape ≡ extents written.now) }
+    ensures small { IfSome result (λ shape. size_of shape ≤ MAX_VOLUME) }
+{
+    let mut kept = [0; 4];
+    if !put_extents(&mut kept[..written.len()], written) {
+        return None;
+    }
+    let shape = Shape::new(&kept[..written.len()]);
+    if is_within_limits(&shape) {
+        Some(shape)
+    } else {
+        None
+    }
+}
+
 /// Type and shape of an array of written extents.
 ///
 /// # Errors
@@ -95,14 +122,13 @@ pub fn shaped(t: DType, written: &[i128]) -> Result<(DType, Shape), FaultKind>
     ensures rule { ruled_new result ≡ shaped_of t written.now }
     ensures small { IfOk result (λ made. size_of made.1 ≤ MAX_VOLUME) }
 {
-    if !are_extents(written) || MAX_AXES < written.len() {
+    if !is_shape(written) {
         return Err(FaultKind::Shape);
     }
-    let mut kept = [0; 4];
-    if !put_extents(&mut kept[..written.len()], written) {
-        return Err(FaultKind::Limit);
+    match shape_within(written) {
+        Some(shape) => Ok((t, shape)),
+        None => Err(FaultKind::Limit),
     }
-    made(t, &Shape::new(&kept[..written.len()]))
 }
 
 /// Type and shape of an array that is filled with a number.

@@ -1,8 +1,8 @@
-use Rattle.std.proofs.Common.{◌≡◌, ℕ, ◌+◌, true, false, [], ◌∷◌, map, drop, sym, ap, ◌∙◌, rules}
+use Rattle.std.proofs.Common.{◌≡◌, ◌+◌, true, false, [], map, drop, sym, ap, ◌∙◌, rules}
 use Rattle.std.proofs.lemmas.List.{drop_all}
-use Rattle.lg_tree.specs.View.{tree_of, trees, shape_of, list_of, list_trees}
-use Rattle.lg_session.specs.Built.{is_built_shape, are_built_trees, is_built_list, are_built_lists}
-use Rattle.lg_session.proofs.BuiltLemmas.{trees_more, trees_stop, lists_more, lists_stop}
+use Rattle.lg_tree.specs.View.{tree_of, trees, item_of, item_trees, shape_of, list_of, list_trees}
+use Rattle.lg_session.specs.Built.{is_built_shape, are_built_trees, are_built_items, is_built_list, are_built_lists}
+use Rattle.lg_session.proofs.BuiltLemmas.{trees_more, trees_stop, items_more, items_stop, lists_more, lists_stop}
 use Rattle.lg_session.proofs.ShapeLemmas.{rest_at}
 use Rattle.lg_session.proofs.TreeLemmas.{shape-Tuple, tree-List}
 use Rattle.lg_session.proofs.built.+forms.Goals as goal
@@ -70,3 +70,33 @@ is_built_shape-returns-after-loop-extent t c =
     ap (λ ls. are_built_trees (trees (map tree_of ls))) (sym past)
     ∙ c.loop-extent.invariant ∙ ap (λ ls. are_built_trees (trees (map tree_of ls))) c.as_slice-extent-items.ensures
     ∙ ap is_built_shape (sym (ap shape_of c.in-Tuple.is ∙ shape-Tuple c.in-Tuple.extents))
+
+pub are_built_items-returns-then-not-is_built_item : goal.are_built_items-returns-then-not-is_built_item
+are_built_items-returns-then-not-is_built_item t c =
+    let items = c.args.items.now in
+    let i = c.loop-item.item-index in
+    let x = item_of c.item-item.result in
+    let rest = map item_of (drop (i + 1) items) in
+    let test : c.is_built_item.result ≡ false = search rules in
+    sym (items_stop x (item_trees rest) (sym c.is_built_item.ensures ∙ test))
+    ∙ ap (λ ls. are_built_items (item_trees ls)) (sym (rest_at item_of items i c.item-item.result c.loop-item-test.true c.item-item.is))
+    ∙ c.loop-item.invariant
+
+pub are_built_items-loop-item-preserved : goal.are_built_items-loop-item-preserved
+are_built_items-loop-item-preserved t c =
+    let items = c.args.items.now in
+    let i = c.loop-item.item-index in
+    let x = item_of c.item-item.result in
+    let rest = map item_of (drop (i + 1) items) in
+    let test : c.is_built_item.result ≡ true = search rules in
+    sym (items_more x (item_trees rest) (sym c.is_built_item.ensures ∙ test))
+    ∙ ap (λ ls. are_built_items (item_trees ls)) (sym (rest_at item_of items i c.item-item.result c.loop-item-test.true c.item-item.is))
+    ∙ c.loop-item.invariant
+
+pub are_built_items-returns : goal.are_built_items-returns
+are_built_items-returns t c =
+    let items = c.args.items.now in
+    let i = c.loop-item.item-index in
+    let past : drop i items ≡ [] = drop_all i items c.loop-item-test.false in
+    ap (λ ls. are_built_items (item_trees (map item_of ls))) (sym past)
+    ∙ c.loop-item.invariant

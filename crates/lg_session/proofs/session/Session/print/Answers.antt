@@ -11,4 +11,4 @@ returns-in_err-value c = λ state stands.
 pub returns : goal.returns
 returns c = λ state stands.
     prints state (tree_of c.args.value.now) c.args.self.now c.in_ok-value.value _ _ c.printed_operand.result (c.in_ok-value.ensures.outcome state stands)
-    c.operand.ensures.kind c.operand.ensures.same c.printed_operand.ensures
+    c.read.ensures.kind c.read.ensures.same c.printed_operand.ensures

@@ -1,7 +1,0 @@
-use Rattle.lg_tree.specs.View.{line_of}
-use Rattle.legate.proofs.Runs.{stops_unwritten}
-use Rattle.legate.proofs.running.run_line.Goals as goal
-
-pub returns-in-Err-clause-stopped : goal.returns-in-Err-clause-stopped
-returns-in-Err-clause-stopped g c = λ state stands.
-    stops_unwritten _ c.in-Err.stop.end (line_of c.args.line.now) state _ c.from.ensures (c.in-Err.ensures.stopped state stands)

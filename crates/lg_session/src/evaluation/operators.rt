@@ -1,0 +1,94 @@
+//! The operations on elements, of an expression's parts.
+ghost use Rattle.std.specs.Prelude.{◌≡◌, true, IfOk};
+ghost use Rattle.lg_tree.specs.View.{tree_of};
+ghost use Rattle.lg_meaning.specs.Memory.{State};
+ghost use Rattle.lg_session.specs.Roots.{contents};
+ghost use Rattle.lg_session.specs.Standing.{StandsFor};
+ghost use Rattle.lg_session.specs.Values.{IsUsable, IsOutcome};
+ghost use Rattle.lg_session.specs.Built.{is_built_tree};
+ghost use Rattle.lg_session.specs.Forms.{is_operator, is_operation};
+
+use crate::evaluation::evaluate;
+use crate::forms::{arithmetic, choice, comparison, negative, one_operand, two_operands};
+use crate::operations::EvaluateEnd;
+use crate::session::Session;
+use crate::value::Value;
+use lg_elem::{Binary, Unary};
+use lg_tree::Expr;
+use std::alloc::Global;
+
+/// `a + b`, `a < b`, and so for each operator of two operands.
+#[cycle(walk)]
+#[inline(never)]
+pub(super) fn evaluate_operator(
+    alloc: Global,
+    session: &Session,
+    value: &Expr,
+) -> Result<Value, EvaluateEnd>
+    requires operator { is_operator (tree_of value.now) ≡ true }
+    requires built { is_built_tree (tree_of value.now) ≡ true }
+    ensures usable { IfOk result (IsUsable (contents session.now.roots)) }
+    ensures outcome { (state : State) → StandsFor session.now state
+        → IsOutcome (tree_of value.now) state session.now result }
+{
+    match value {
+        Expr::Arith(op, a, b) => {
+            let a = evaluate(alloc, session, a.get())?;
+            let b = evaluate(alloc, session, b.get())?;
+            arithmetic(alloc, session, *op, &a, &b)
+        }
+        Expr::Compare(op, a, b) => {
+            let a = evaluate(alloc, session, a.get())?;
+            let b = evaluate(alloc, session, b.get())?;
+            comparison(alloc, session, *op, &a, &b)
+        }
+        _ => unreachable!(),
+    }
+}
+
+/// `-a`, `~a`, `abs(a)`, `minimum(a, b)`, `maximum(a, b)` and `where(condition, a, b)`.
+#[cycle(walk)]
+#[inline(never)]
+pub(super) fn evaluate_operation(
+    alloc: Global,
+    session: &Session,
+    value: &Expr,
+) -> Result<Value, EvaluateEnd>
+    requires operation { is_operation (tree_of value.now) ≡ true }
+    requires built { is_built_tree (tree_of value.now) ≡ true }
+    ensures usable { IfOk result (IsUsable (contents session.now.roots)) }
+    ensures outcome { (state : State) → StandsFor session.now state
+        → IsOutcome (tree_of value.now) state session.now result }
+{
+    match value {
+        Expr::Neg(a) => {
+            let a = evaluate(alloc, session, a.get())?;
+            negative(alloc, session, &a)
+        }
+        Expr::Invert(a) => {
+            let a = evaluate(alloc, session, a.get())?;
+            one_operand(alloc, session, Unary::Invert, &a)
+        }
+        Expr::Abs(a) => {
+            let a = evaluate(alloc, session, a.get())?;
+            one_operand(alloc, session, Unary::Abs, &a)
+        }
+        Expr::Minimum(a, b) => {
+            let a = evaluate(alloc, session, a.get())?;
+            let b = evaluate(alloc, session, b.get())?;
+            two_operands(alloc, session, Binary::Min, &a, &b)
+        }
+        Expr::Maximum(a, b) => {
+            let a = evaluate(alloc, session, a.get())?;
+            let b = evaluate(alloc, session, b.get())?;
+            two_operands(alloc, session, Binary::Max, &a, &b)
+        }
+        Expr::Where(condition, a, b) => {
+            let condition = evaluate(alloc, session, condition.get())?;
+            let a = evaluate(alloc, session, a.get())?;
+            let b = evaluate(alloc, session, b.get())?;
+            choice(alloc, session, &condition, &a, &b)
+        }
+        _ => unreachable!(),
+    }
+}
