@@ -1,0 +1,3 @@
+a = np.full((4096, 1024), 7)
+b = np.full(1024, 3)
+repeat: z = a + b
