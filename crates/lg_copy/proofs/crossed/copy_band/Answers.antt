@@ -1,0 +1,54 @@
+use Rattle.std.proofs.Common.{◌+◌, ◌<◌, ◌≤◌, length, [], ◌∷◌, refl, sym, subst, arith}
+use Rattle.lg_space.specs.Stored.{MAX_VOLUME}
+use Rattle.lg_copy.specs.Copying.{AreSmall, Copied, Fits, Goes}
+use Rattle.lg_copy.proofs.Inward.{step_small, part_fits, fits_swap, goes_none, goes_more, goes_all, goes_swap}
+use Rattle.lg_copy.proofs.crossed.copy_band.Goals as goal
+
+pub loop-done-init : goal.loop-done-init
+loop-done-init g c = record { within = omega arith; copied = goes_none c.args.source.now _ (c.args.outer.now ∷ []) c.args.from c.args.to c.args.target.now refl }
+
+pub places-here-requires-clause-small : goal.places-here-requires-clause-small
+places-here-requires-clause-small g c =
+    (step_small c.args.from c.args.to (length c.args.source.now) (length c.args.target.now) c.args.inner.now (c.args.outer.now ∷ []) c.loop-done.done (fits_swap c.args.outer.now c.args.inner.now [] c.args.from c.args.to (length c.args.source.now) (length c.args.target.now) c.requires.fits) c.requires.source c.requires.target (c.requires.axes.1.0, (c.requires.axes.0, tt)) c.loop-done-test.true).0
+
+pub places-here-requires-clause-reads : goal.places-here-requires-clause-reads
+places-here-requires-clause-reads g c =
+    (step_small c.args.from c.args.to (length c.args.source.now) (length c.args.target.now) c.args.inner.now (c.args.outer.now ∷ []) c.loop-done.done (fits_swap c.args.outer.now c.args.inner.now [] c.args.from c.args.to (length c.args.source.now) (length c.args.target.now) c.requires.fits) c.requires.source c.requires.target (c.requires.axes.1.0, (c.requires.axes.0, tt)) c.loop-done-test.true).1
+
+pub places-here-requires-clause-writes : goal.places-here-requires-clause-writes
+places-here-requires-clause-writes g c =
+    (step_small c.args.from c.args.to (length c.args.source.now) (length c.args.target.now) c.args.inner.now (c.args.outer.now ∷ []) c.loop-done.done (fits_swap c.args.outer.now c.args.inner.now [] c.args.from c.args.to (length c.args.source.now) (length c.args.target.now) c.requires.fits) c.requires.source c.requires.target (c.requires.axes.1.0, (c.requires.axes.0, tt)) c.loop-done-test.true).2
+
+pub copy_cell-requires-clause-axes : goal.copy_cell-requires-clause-axes
+copy_cell-requires-clause-axes g c =
+    let is = sym c.with_count-cell.ensures in
+    let count = c.min-count.result in
+    let few : count ≤ MAX_VOLUME = omega (arith, c.min-count.ensures, c.loop-done-test.true) in
+    subst (λ a. AreSmall (c.args.outer.now ∷ a ∷ [])) is (c.requires.axes.0, (few, tt))
+
+pub copy_cell-requires-clause-fits : goal.copy_cell-requires-clause-fits
+copy_cell-requires-clause-fits g c =
+    let here = c.places-here.result.0 in
+    let there = c.places-here.result.1 in
+    let count = c.min-count.result in
+    let within : c.loop-done.done + count ≤ c.args.inner.now.count = omega (arith, c.min-count.ensures, c.loop-done-test.true) in
+    let some : 0 < count = omega (arith, c.min-count.ensures, c.loop-done-test.true) in
+    let is = sym c.with_count-cell.ensures in
+    subst (Fits here there (c.args.outer.now ∷ c.with_count-cell.result ∷ []) (length c.args.source.now)) (sym c.loop-done.invariant.copied.same_length)
+    (subst (λ a. Fits here there (c.args.outer.now ∷ a ∷ []) (length c.args.source.now) (length c.args.target.now)) is
+    (fits_swap (record c.args.inner.now { count = count }) c.args.outer.now [] here there (length c.args.source.now) (length c.args.target.now) (part_fits c.args.inner.now (c.args.outer.now ∷ []) c.args.from c.args.to c.loop-done.done count here there c.places-here.ensures.from c.places-here.ensures.to
+    (length c.args.source.now) (length c.args.target.now) (fits_swap c.args.outer.now c.args.inner.now [] c.args.from c.args.to (length c.args.source.now) (length c.args.target.now) c.requires.fits) within some)))
+
+pub loop-done-preserved : goal.loop-done-preserved
+loop-done-preserved g c =
+    let here = c.places-here.result.0 in
+    let there = c.places-here.result.1 in
+    let count = c.min-count.result in
+    record {
+      within = omega (arith, c.min-count.ensures, c.loop-done-test.true);
+      copied = goes_more c.args.inner.now (c.args.outer.now ∷ []) c.args.from c.args.to c.loop-done.done count here there c.places-here.ensures.from c.places-here.ensures.to
+          c.args.source.now c.args.target.now c.loop-done.target c.copy_cell.new.target c.loop-done.invariant.copied (goes_swap c.args.source.now c.loop-done.target c.copy_cell.new.target c.args.outer.now (record c.args.inner.now { count = count }) [] here there (subst (λ a. Copied c.args.source.now c.loop-done.target c.copy_cell.new.target (λ s q. Goes here there (c.args.outer.now ∷ a ∷ []) s q)) c.with_count-cell.ensures c.copy_cell.ensures));
+    }
+
+pub returns : goal.returns
+returns g c = goes_swap c.args.source.now c.args.target.now c.loop-done.target c.args.inner.now c.args.outer.now [] c.args.from c.args.to (goes_all c.args.source.now c.args.inner.now (c.args.outer.now ∷ []) c.args.from c.args.to c.loop-done.done c.args.target.now c.loop-done.target (omega (arith, c.loop-done-test.false, c.loop-done.invariant.within)) c.loop-done.invariant.copied)

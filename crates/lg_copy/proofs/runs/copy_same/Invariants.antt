@@ -1,0 +1,6 @@
+use Rattle.std.proofs.Common.{pos}
+use Rattle.lg_copy.specs.Copying.{Copied, GoesAlong}
+use Rattle.lg_copy.proofs.runs.copy_same.Given as goal
+
+abbrev pub invariant-loop-k : goal.invariant-loop-k
+invariant-loop-k g l = Copied l.source l.fn.target l.target (λ s q. GoesAlong l.from l.to l.k (pos 0) (pos 1) s q)
