@@ -33,9 +33,11 @@ pub mod PartLemmas
 pub mod Viewings
 mod Joins
 mod Statics
+mod Reshapings
 mod Values
 mod Made
 mod Written
+mod Copyings
 pub mod LoopLemmas
 pub mod StatementLemmas
 pub mod Printing

@@ -47,7 +47,7 @@ abbrev kind_in : Static → ArrayKind → ArrayKind
 kind_in (array_value k) kind = k
 kind_in (weak_value w) kind = kind
 
-the_kind : (k : ArrayKind) (m : ArrayKind) → ◌≡◌ {A = Result Static FaultKind} (Ok (array_value k)) (Ok (array_value m)) → k ≡ m
+pub the_kind : (k : ArrayKind) (m : ArrayKind) → ◌≡◌ {A = Result Static FaultKind} (Ok (array_value k)) (Ok (array_value m)) → k ≡ m
 the_kind k m e = ap (λ r. kind_in (unwrap_or (result_ok r) (array_value k)) k) e
 
 abbrev pub kind_with : DType → List ℕ → Right → ArrayKind

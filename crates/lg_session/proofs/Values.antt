@@ -118,6 +118,12 @@ unary_same inputs shape t a x lends read op fits =
     along shape _ (λ index. unary_of op t (spread_at a index)) (λ index inside. ap (unary_of op t) (wrapped_is inputs shape a x 0 lends read t fits index inside))
     ∙ sym (map-map (unary_of op t) (spread_at a) (places shape))
 
+pub cast_same : (inputs : Inputs) (shape : List ℕ) (t : DType) (a : Value) (x : Lent) → Lends a shape x → Reads inputs x 0
+    → lent_values (ops.Cast (operand_in x 0)) t inputs (whole shape) ≡ map (wrap t) (spread shape a)
+cast_same inputs shape t a x lends read =
+    along shape _ (λ index. wrap t (spread_at a index)) (λ index inside. ap (wrap t) (number_is inputs shape a x 0 lends read index inside))
+    ∙ sym (map-map (wrap t) (spread_at a) (places shape))
+
 pub choose_same : (inputs : Inputs) (shape : List ℕ) (t : DType) (c a b : Value) (w x y : Lent) → Lends c shape w → Lends a shape x → Lends b shape y
     → Reads inputs w 0 → Reads inputs x 1 → Reads inputs y 2 → ((index : List ℕ) → IsNumber t (spread_at a index)) → ((index : List ℕ) → IsNumber t (spread_at b index))
     → lent_values (ops.Select (operand_in w 0) (operand_in x 1) (operand_in y 2)) t inputs (whole shape)

@@ -1,8 +1,9 @@
 -- What is gathered of a view over a rectangle of its indices.
 use Rattle.std.proofs.Common.{◌≡◌, ℕ, ◌+◌, ◌-◌, ◌*◌, ◌<◌, ◌≤◌, List, [], ◌∷◌, length, map, take, Some, Result, Ok, Err, IfOk, get_or, slice_get, ℤ, pos, ◌+ℤ◌, ◌*ℤ◌, refl, sym, ap, subst, ◌∙◌, arith}
-use Rattle.std.specs.List.{All}
+use Rattle.std.specs.List.{All, range_with_len}
 use Rattle.std.specs.Option.{option_map, unwrap_or}
 use Rattle.std.proofs.lemmas.List.{length-map, take_all}
+use Rattle.std.proofs.lemmas.List.FromFn.{fill_by_all}
 use Rattle.std.proofs.lemmas.List.Elements.{All-nil, All-cons, All-head, All-tail}
 use Rattle.std.proofs.lemmas.Option.{slice_get-map, get_or_from_slice_get, unwrap_or-slice_get}
 use Rattle.std.proofs.lemmas.Int.{ints}
@@ -11,7 +12,7 @@ use Rattle.lg_space.specs.Stored.{MAX_END, IsStorable}
 use Rattle.lg_space.proofs.Places.{place-below}
 use Rattle.lg_shape.specs.Shapes.{whole, places, place_of, size_of}
 use Rattle.lg_shape.specs.Stored.{IsShape}
-use Rattle.lg_shape.specs.Views.{place_at}
+use Rattle.lg_shape.specs.Views.{Layout, place_at, whole_layout}
 use Rattle.lg_tile.specs.Sections.{Covers}
 use Rattle.lg_tile.specs.declared.any_tile.AnyTile.{AnyTile}
 use Rattle.lg_tile.specs.Tiles.{numbers, number_at, rect_of}
@@ -163,7 +164,24 @@ whole_numbers tile out chain rect same =
     ∙ ap (λ place. get_or (numbers tile) place (pos 0)) (place_leads chain index inside))
     ∙ sym (map-map (λ place. get_or (numbers tile) place (pos 0)) (λ index. place_of (root_of chain) (mapped chain index)) (places shape))
 
+-- the whole of a root, copied
+pub whole_copied : (tile out : AnyTile) (chain : Chain) → rect_of tile ≡ whole (root_of chain) → layout_of chain ≡ whole_layout (root_of chain) → numbers out ≡ numbers tile
+    → numbers out ≡ map (λ place. get_or (numbers tile) place (pos 0)) (layout_of chain).places
+whole_copied tile out chain full is same =
+    let count : length (numbers tile) ≡ size_of (root_of chain) = numbers_full tile ∙ ap volume_of full in
+    same ∙ fill_by_all (λ place. get_or (numbers tile) place (pos 0)) (numbers tile) (length (numbers tile)) (pos 0) refl (λ i h. refl)
+    ∙ ap (λ n. map (λ place. get_or (numbers tile) place (pos 0)) (range_with_len 0 n)) count
+    ∙ sym (ap (λ (l : Layout). map (λ place. get_or (numbers tile) place (pos 0)) l.places) is)
+
+pub whole_rect : (tile out : AnyTile) (chain : Chain) → rect_of tile ≡ whole (root_of chain) → layout_of chain ≡ whole_layout (root_of chain) → rect_of out ≡ rect_of tile
+    → rect_of out ≡ whole (shape_of chain)
+whole_rect tile out chain full is same = same ∙ full ∙ ap (λ (l : Layout). whole l.shape) (sym is)
+
 -- what follows from two facts of a value that is there
 pub if_ok_both : {X E : Type 0} (r : Result X E) (P Q R : X → Type 0) → ((x : X) → P x → Q x → R x) → IfOk r P → IfOk r Q → IfOk r R
 if_ok_both (Ok x) P Q R f p q = f x p q
 if_ok_both (Err e) P Q R f p q = tt
+
+pub if_ok_one : {X E : Type 0} (r : Result X E) (P Q : X → Type 0) → ((x : X) → P x → Q x) → IfOk r P → IfOk r Q
+if_ok_one (Ok x) P Q f p = f x p
+if_ok_one (Err e) P Q f p = tt

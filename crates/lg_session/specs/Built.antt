@@ -1,6 +1,6 @@
 -- Which forms of the language a session evaluates so far. This project's own.
 use Rattle.std.specs.Prelude.{ℕ, Bool, true, false, ◌&&◌, List, Option, Some, None}
-use Rattle.lg_tree.specs.Tree.{Tree, number, truth, name, neg, invert, arith, compare, index, full, zeros, ones, arange, array, abs, minimum, maximum, choose, transpose, broadcast_to, MaybeTree, no_tree, some_tree, Trees, no_trees, more_trees, ShapeTree, one, tuple, MaybeShape, no_shape, some_shape, ItemTree, at, slice, ItemTrees, no_items, more_items, ListTree, leaf, list, ListTrees, no_lists, more_lists, StatementTree, bind, print, loop, LineTrees, no_lines, more_lines, LineTree, line_trees}
+use Rattle.lg_tree.specs.Tree.{Tree, number, truth, name, neg, invert, arith, compare, index, full, zeros, ones, arange, array, abs, minimum, maximum, choose, transpose, broadcast_to, copy, flatten, as_type, reshape, MaybeTree, no_tree, some_tree, Trees, no_trees, more_trees, ShapeTree, one, tuple, MaybeShape, no_shape, some_shape, ItemTree, at, slice, ItemTrees, no_items, more_items, ListTree, leaf, list, ListTrees, no_lists, more_lists, StatementTree, bind, print, loop, LineTrees, no_lines, more_lines, LineTree, line_trees}
 
 abbrev mutual
   pub is_built_tree : Tree → Bool
@@ -23,6 +23,10 @@ abbrev mutual
   is_built_tree (choose c a b) = is_built_tree c && (is_built_tree a && is_built_tree b)
   is_built_tree (transpose a s) = is_built_tree a && is_built_axes s
   is_built_tree (broadcast_to a s) = is_built_tree a && is_built_shape s
+  is_built_tree (copy a) = is_built_tree a
+  is_built_tree (flatten a) = is_built_tree a
+  is_built_tree (as_type a t) = is_built_tree a
+  is_built_tree (reshape a s) = is_built_tree a && is_built_shape s
   is_built_tree e = false
 
   pub is_built_maybe : MaybeTree → Bool

@@ -1,6 +1,6 @@
 -- The groups of forms that are walked by one function each.
 use Rattle.std.specs.Prelude.{Bool, true, false}
-use Rattle.lg_tree.specs.Tree.{Tree, neg, invert, arith, compare, abs, minimum, maximum, choose, full, zeros, ones, arange, array, index, transpose, broadcast_to}
+use Rattle.lg_tree.specs.Tree.{Tree, neg, invert, arith, compare, abs, minimum, maximum, choose, full, zeros, ones, arange, array, index, transpose, broadcast_to, copy, flatten, as_type, reshape}
 
 -- an operator of two operands
 abbrev pub is_operator : Tree → Bool
@@ -33,3 +33,11 @@ is_view (index a is) = true
 is_view (transpose a s) = true
 is_view (broadcast_to a s) = true
 is_view e = false
+
+-- a copying form
+abbrev pub is_copy : Tree → Bool
+is_copy (copy a) = true
+is_copy (flatten a) = true
+is_copy (as_type a t) = true
+is_copy (reshape a s) = true
+is_copy e = false

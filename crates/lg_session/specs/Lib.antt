@@ -22,3 +22,5 @@ pub mod Ends
 pub mod Turns
 pub mod Built
 pub mod Repeating
+pub mod Reshaping
+pub mod Copying

@@ -2,7 +2,8 @@
 use Rattle.std.specs.Prelude.{◌≡◌, ℕ, List, [], None, Result, Ok, Err, ⊤}
 use Rattle.lg_elem.specs.declared.dtype.DType.{DType}
 use Rattle.lg_meaning.specs.declared.fault.FaultKind.{FaultKind}
-use Rattle.lg_meaning.specs.Memory.{Right, writable}
+use Rattle.lg_meaning.specs.Faults.{from_part}
+use Rattle.lg_meaning.specs.Memory.{ArrayKind, Right, writable}
 use Rattle.lg_meaning.specs.Static.{Static, array_value, right_of}
 use Rattle.lg_shape.specs.Shapes.{whole}
 use Rattle.lg_tile.specs.Tiles.{dtype_of, numbers, rect_of}
@@ -24,6 +25,10 @@ abbrev pub ruled_new : Result (DType × List ℕ) FaultKind → Result Static Fa
 ruled_new (Ok made) =
     Ok (array_value (record { dtype = made.0; shape = made.1; right = writable }))
 ruled_new (Err kind) = Err kind
+
+-- type and shape of an array
+abbrev pub typed : Result ArrayKind FaultKind → Result (DType × List ℕ) FaultKind
+typed kind = from_part kind (λ k. Ok (k.dtype, k.shape))
 
 -- a new array has this type and shape and the numbers of an operation without operands; only memory
 -- may be wanting

@@ -89,14 +89,12 @@ fn is_built_expr(value: &Expr) -> bool
         Expr::Index(a, items) => is_built_expr(a.get()) && are_built_items(items.as_slice()),
         Expr::Transpose(a, axes) => is_built_expr(a.get()) && is_built_axes(axes),
         Expr::BroadcastTo(a, shape) => is_built_expr(a.get()) && is_built_shape(shape),
+        Expr::Copy(a) | Expr::Flatten(a) | Expr::AsType(a, _) => is_built_expr(a.get()),
+        Expr::Reshape(a, shape) => is_built_expr(a.get()) && is_built_shape(shape),
         Expr::MatMul(_, _)
         | Expr::Reduce(_, _, _)
         | Expr::Take(_, _, _)
         | Expr::Stencil(_, _)
-        | Expr::Copy(_)
-        | Expr::Flatten(_)
-        | Expr::AsType(_, _)
-        | Expr::Reshape(_, _)
         | Expr::Apply(_, _, _)
         | Expr::Scan(_, _, _) => false,
     }

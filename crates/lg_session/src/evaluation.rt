@@ -10,11 +10,13 @@ ghost use Rattle.lg_session.specs.Standing.{StandsFor};
 ghost use Rattle.lg_session.specs.Values.{IsUsable, IsOutcome};
 ghost use Rattle.lg_session.specs.Built.{is_built_tree};
 
+mod copies;
 mod creation;
 mod operators;
 mod parts;
 mod views;
 
+use crate::evaluation::copies::evaluate_copy;
 use crate::evaluation::creation::evaluate_creation;
 use crate::evaluation::operators::{evaluate_operation, evaluate_operator};
 use crate::evaluation::views::evaluate_view;
@@ -57,14 +59,13 @@ pub(crate) fn evaluate(alloc: Global, session: &Session, value: &Expr) -> Result
         Expr::Index(_, _) | Expr::Transpose(_, _) | Expr::BroadcastTo(_, _) => {
             evaluate_view(alloc, session, value)
         }
+        Expr::Copy(_) | Expr::Flatten(_) | Expr::AsType(_, _) | Expr::Reshape(_, _) => {
+            evaluate_copy(alloc, session, value)
+        }
         Expr::MatMul(_, _)
         | Expr::Reduce(_, _, _)
         | Expr::Take(_, _, _)
         | Expr::Stencil(_, _)
-        | Expr::Copy(_)
-        | Expr::Flatten(_)
-        | Expr::AsType(_, _)
-        | Expr::Reshape(_, _)
         | Expr::Apply(_, _, _)
         | Expr::Scan(_, _, _) => unreachable!(),
     }

@@ -4,6 +4,7 @@
 
 mod axes;
 mod built;
+mod copying;
 mod evaluation;
 mod examples;
 mod forms;

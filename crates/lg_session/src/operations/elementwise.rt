@@ -1,15 +1,17 @@
 ghost use Rattle.std.specs.Prelude.{◌≡◌, ◌≤◌, ◌⊎◌, [], ◌∷◌};
 ghost use Rattle.lg_meaning.specs.Faults.{first_fault as first_fault_of};
 ghost use Rattle.lg_meaning.specs.Static.{right_of};
+ghost use Rattle.lg_meaning.specs.Copies.{as_type_static, as_type_value};
 ghost use Rattle.lg_meaning.specs.Operators.{binary_static, compare_static, unary_static, choose_static, binary_value, compare_value, unary_value, choose_value, flagged};
 ghost use Rattle.lg_session.specs.Operations.{operand_static, operand_value, IsReady, right_for, IsArray, IsMade};
 
+use crate::operations::copies::rule_of_as_type;
 use crate::operations::end::EvaluateEnd;
 use crate::operations::lending::{Inputs, Lent, lend};
 use crate::operations::rules::{rule_of_binary, rule_of_choose, rule_of_compare, rule_of_unary};
 use crate::operations::tiling::evaluate;
 use crate::operations::values::{Fresh, Operand};
-use lg_elem::{Binary, Compare, Flag, Unary};
+use lg_elem::{Binary, Compare, DType, Flag, Unary};
 use lg_map::MapOp;
 use lg_meaning::FaultKind;
 use lg_promote::laws::common_is_least;
@@ -175,4 +177,34 @@ pub fn choose<'a>(
     };
     let (tile, _) = evaluate(alloc, pieces, &map, &inputs, &shape, t)?;
     Ok(result_of(tile, &shape, first_fault(c, a, b.fault())))
+}
+
+/// The elements of one operand, each as one of another type (NumPy's reference,
+/// "numpy.ndarray.astype"): wrapped to its bits, and for bool whether it is not 0. A weak number
+/// counts as an array without axes first. The new array may be written.
+///
+/// # Errors
+///
+/// The first static fault, and `NoMemory`. A fault of elements is told beside the array.
+pub fn as_type(alloc: Global, pieces: u32, a: &Operand<'_>, t: DType) -> Result<Fresh, EvaluateEnd>
+    requires some { 1 ≤ pieces }
+    requires few { pieces ≤ 64 }
+    requires ready { IsReady a.now }
+    ensures { IsMade (as_type_static (operand_static a.now) t) (as_type_value (operand_value a.now))
+        result }
+{
+    let (t, shape) = rule_of_as_type(a, t)?;
+    let first = lend(a, &shape);
+    let map = MapOp::Cast(first.operand(0));
+    let inputs = Inputs {
+        first,
+        second: Lent::Number(0),
+        third: Lent::Number(0),
+    };
+    let (tile, _) = evaluate(alloc, pieces, &map, &inputs, &shape, t)?;
+    Ok(Fresh {
+        tile,
+        right: Right::Writable,
+        fault: a.fault(),
+    })
 }

@@ -18,7 +18,7 @@ use lg_xform::Chain;
 use std::alloc::{AllocError, Global};
 
 /// The elements of a view of a root whose elements are a tile, in row-major order of the view's
-/// indices.
+/// indices. Those of a whole root are copied at once.
 pub fn gather(alloc: Global, tile: &AnyTile, chain: &Chain) -> Result<AnyTile, NoMemory>
     requires root { rect_of tile.now ≡ whole (root_of chain.now) }
     requires small { size_of (shape_of chain.now) ≤ MAX_VOLUME }
@@ -27,6 +27,11 @@ pub fn gather(alloc: Global, tile: &AnyTile, chain: &Chain) -> Result<AnyTile, N
     ensures numbers { IfOk result (λ out. numbers out
         ≡ map (λ place. slice_index_or (numbers tile.now) place (pos 0)) (layout_of chain.now).places) }
 {
+    // What is known of every rectangle, its limits, is told with its ranges.
+    let _limits = tile.rect().ranges();
+    if is_whole(chain) {
+        return tile.copied(alloc);
+    }
     let all = chain.shape().whole();
     gather_part(alloc, tile, chain, &all)
 }

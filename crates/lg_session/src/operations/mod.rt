@@ -1,5 +1,6 @@
 //! Operations on arrays and weak numbers, each evaluated at once, tile after tile.
 
+mod copies;
 mod elementwise;
 mod end;
 mod gathering;
@@ -7,6 +8,7 @@ mod lending;
 mod limits;
 mod making;
 mod parts;
+mod reshaping;
 mod rules;
 mod scalar;
 mod tiling;
@@ -14,10 +16,12 @@ mod values;
 mod weak;
 mod written;
 
-pub use elementwise::{binary, choose, compare, unary};
+pub(crate) use copies::{rule_of_copy, rule_of_flatten};
+pub use elementwise::{as_type, binary, choose, compare, unary};
 pub use end::EvaluateEnd;
 pub(crate) use gathering::gather;
 pub use making::{counted, full, listed, ones, zeros};
+pub(crate) use reshaping::{in_shape, rule_of_reshape};
 pub(crate) use rules::shape_in;
 pub use scalar::scalar_array;
 pub use values::{Fresh, Operand, Weak};

@@ -39,8 +39,8 @@ fn type_beside(other: &Operand<'_>, a: &Operand<'_>) -> DType
     }
 }
 
-// The type of an operand by itself.
-fn type_alone(a: &Operand<'_>) -> DType
+/// The type of an operand by itself.
+pub fn type_alone(a: &Operand<'_>) -> DType
     ensures { result ≡ type_alone_of (operand_static a.now) }
 {
     match a {
@@ -61,8 +61,8 @@ pub fn has_number(t: DType, x: i128) -> bool
     }
 }
 
-// Whether a weak integer fits the type that it takes.
-fn fits(t: DType, a: &Operand<'_>) -> bool
+/// Whether a weak integer fits the type that it takes.
+pub fn fits(t: DType, a: &Operand<'_>) -> bool
     ensures { result ≡ fits_of t (operand_static a.now) }
 {
     match a {
@@ -99,8 +99,8 @@ pub fn shape_in(tile: &AnyTile) -> Shape
     Shape::new(&extents[..ranges.len()])
 }
 
-// A weak number has no axes.
-fn shape_of(a: &Operand<'_>) -> Shape
+/// The shape of an operand: a weak number has no axes.
+pub fn shape_of(a: &Operand<'_>) -> Shape
     ensures { result ≡ shape_of_static (operand_static a.now) }
 {
     match a {

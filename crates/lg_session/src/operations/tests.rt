@@ -6,6 +6,7 @@ ghost use Rattle.lg_space.specs.Stored.{MAX_END};
 ghost use Rattle.lg_meaning.specs.Weak.{integer};
 ghost use Rattle.lg_session.specs.Operations.{IsArray, IsRanged, IsReady, IsWhole, weak_of};
 
+mod copies;
 mod views;
 
 use crate::operations::rules::shape_in;

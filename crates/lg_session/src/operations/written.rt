@@ -46,8 +46,12 @@ fn is_literal(t: DType, x: i128) -> bool
     literal(x, t).is_ok()
 }
 
-// An array of a shape within the limits.
-fn made(t: DType, shape: &Shape) -> Result<(DType, Shape), FaultKind>
+/// Type and shape of an array of a shape.
+///
+/// # Errors
+///
+/// `Limit` where it is too great.
+pub fn made(t: DType, shape: &Shape) -> Result<(DType, Shape), FaultKind>
     ensures rule { ruled_new result ≡ made_of t shape.now }
     ensures small { IfOk result (λ made. size_of made.1 ≤ MAX_VOLUME) }
 {
@@ -204,8 +208,12 @@ fn count(from: i128, to: i128) -> u128
     (to - from).unsigned_abs()
 }
 
-// An array of one axis.
-fn row(t: DType, extent: u128) -> Result<(DType, Shape), FaultKind>
+/// Type and shape of an array of one axis.
+///
+/// # Errors
+///
+/// `Limit` where it is too long.
+pub fn row(t: DType, extent: u128) -> Result<(DType, Shape), FaultKind>
     ensures rule { ruled_new result ≡ made_of t (extent ∷ []) }
     ensures small { IfOk result (λ made. size_of made.1 ≤ MAX_VOLUME) }
 {
