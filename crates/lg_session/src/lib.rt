@@ -20,6 +20,7 @@ mod turning;
 mod value;
 mod viewing;
 mod views;
+mod weak_values;
 
 pub use built::{first_unbuilt, is_built};
 pub use examples::built_by_example;

@@ -1,4 +1,4 @@
-ghost use Rattle.std.specs.Prelude.{◌≡◌, ◌↔◌, ℕ, IsTrue, List, None, Some, IfOk, OnOk, OnErr, IsOk, IsSome, option_and_then, bytes_eq, if◌then◌else◌};
+ghost use Rattle.std.specs.Prelude.{◌≡◌, ◌↔◌, ℕ, IsTrue, List, None, Some, IfOk, IfSome, OnOk, OnErr, IsOk, IsSome, option_and_then, bytes_eq, if◌then◌else◌};
 
 use crate::operations::Weak;
 use lg_store::View;
@@ -49,6 +49,7 @@ impl Names {
     ghost use Rattle.std.specs.Ordering.{nat_cmp};
     ghost use Rattle.std.specs.Cmp.Lexicographic.{slice_cmp};
     ghost use Rattle.lg_session.specs.Names.{bound_at, is_of, viewed_root, IsReached};
+    ghost use Rattle.lg_session.specs.declared.names.Bound.TheVariants.{Weak as WeakBound};
 
     /// No name.
     pub(crate) fn new(alloc: Global) -> Names
@@ -65,6 +66,16 @@ impl Names {
         ensures { result ≡ bound_at self.now name.now }
     {
         self.bounds.get(name).copied()
+    }
+
+    /// The weak number that the name stands for, if it does.
+    pub(crate) fn weak(&self, name: &[u8]) -> Option<Weak>
+        ensures { IfSome result (λ w. bound_at self.now name.now ≡ Some (WeakBound w)) }
+    {
+        match self.bounds.get(name) {
+            Some(Bound::Weak(w)) => Some(*w),
+            _ => None,
+        }
     }
 
     /// Whether some name stands for a view of the root.

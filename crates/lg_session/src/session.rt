@@ -17,6 +17,7 @@ use crate::operations::{EvaluateEnd, Fresh, Operand, shape_in};
 use crate::roots::Roots;
 use crate::text::printed_operand;
 use crate::value::Value;
+use crate::weak_values::weak_value;
 use lg_meaning::FaultKind;
 use lg_outside::NoMemory;
 use lg_store::{Right, View};
@@ -177,6 +178,9 @@ impl Session {
         ensures pieces { self.new.pieces ≡ self.old.pieces }
         ensures spent { self.new.spent ≡ self.old.spent }
     {
+        if let Some(w) = weak_value(self, value) {
+            return self.bind_value(word, Value::Weak(w));
+        }
         let value = evaluate(alloc, self, value)?;
         self.bind_value(word, value)
     }

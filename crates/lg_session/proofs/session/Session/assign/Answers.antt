@@ -10,4 +10,4 @@ returns-in_err-value-clause-outcome c = λ state stands.
 
 pub returns-clause-outcome : goal.returns-clause-outcome
 returns-clause-outcome c = λ state stands.
-    c.bind_value.ensures.outcome state (tree_of c.args.value.now) stands (c.in_ok-value.ensures.outcome state stands)
+    c.bind_value-2.ensures.outcome state (tree_of c.args.value.now) stands (c.in_ok-value.ensures.outcome state stands)
