@@ -1,3 +1,5 @@
+pub mod Appends
+pub mod Windows
 pub mod Moves
 pub mod Shares
 pub mod Along

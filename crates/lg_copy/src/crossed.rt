@@ -17,8 +17,8 @@ pub(crate) fn is_crossed(outer: &Axis, inner: &Axis) -> bool {
     is_denser(outer.from, inner.from) || is_denser(outer.to, inner.to)
 }
 
-// Whether the first stride moves, and not as far as the second one.
-fn is_denser(first: i64, second: i64) -> bool {
+/// Whether the first stride moves, and not as far as the second one.
+pub(crate) fn is_denser(first: i64, second: i64) -> bool {
     first != 0 && first.unsigned_abs() < second.unsigned_abs()
 }
 

@@ -12,10 +12,12 @@ ghost use Rattle.lg_xform.specs.Chains.{inner_of, mapped, root_of, shape_of};
 ghost use Rattle.lg_xform.specs.Footprints.{IsTile, LeadsTo};
 ghost use Rattle.lg_copy.specs.Leading.{AreAlike, HasParts, IsOfType, LeadsInto};
 
+use crate::appending::append_typed;
+use crate::crossed::is_denser;
 use crate::through::{copy_any, identity};
 use lg_outside::NoMemory;
 use lg_space::AnyRect;
-use lg_tile::AnyTile;
+use lg_tile::{AnyTile, each};
 use lg_xform::Chain;
 use std::alloc::Global;
 
@@ -42,15 +44,47 @@ pub fn gather(
         → IsIn (rect_of part) (mapped chain.now index)
         → number_at out index ≡ number_at part (mapped chain.now index)) }
 {
-    let mut out = AnyTile::filled(alloc, parts[0].dtype(), rect, 0)?;
     let footprint = chain.footprint(rect);
     if let Some(part) = holder(parts, &footprint) {
-        pull(part, chain, &mut out);
-        return Ok(out);
+        return gather_from(alloc, part, chain, rect);
     }
     let joined = join(alloc, parts, &footprint)?;
-    pull(&joined, chain, &mut out);
-    Ok(out)
+    gather_from(alloc, &joined, chain, rect)
+}
+
+/// The same where one tile has all that is needed of the root. It takes memory once, and the only
+/// error is that there is none. The elements are written once, unless they lie crosswise: then the
+/// tile is made of zeros first, for a copy by blocks.
+pub fn gather_from(
+    alloc: Global,
+    root: &AnyTile,
+    chain: &Chain,
+    rect: &AnyRect,
+) -> Result<AnyTile, NoMemory>
+    requires leads { LeadsInto chain.now rect.now (rect_of root.now) }
+    ensures dtype { IfOk result (λ out. dtype_of out ≡ dtype_of root.now) }
+    ensures rect { IfOk result (λ out. rect_of out ≡ rect.now) }
+    ensures numbers { IfOk result (λ out. (index : List ℕ) → IsIn rect.now index
+        → number_at out index ≡ number_at root.now (mapped chain.now index)) }
+{
+    if is_crosswise(root, chain, rect) {
+        let mut out = AnyTile::filled(alloc, root.dtype(), rect, 0)?;
+        pull(root, chain, &mut out);
+        return Ok(out);
+    }
+    each!(root, tile => append_typed(alloc, tile, chain, rect))
+}
+
+// Whether the elements lie denser along the last axis but one than along the last.
+fn is_crosswise(root: &AnyTile, chain: &Chain, rect: &AnyRect) -> bool
+    requires { LeadsInto chain.now rect.now (rect_of root.now) }
+{
+    let axes = rect.ranges().len();
+    if axes < 2 || rect.volume() == 0 {
+        return false;
+    }
+    let strides = chain.strides(root.rect(), rect);
+    is_denser(strides.axes[axes - 2], strides.axes[axes - 1])
 }
 
 // Reads each element of a tile through a view of a root.

@@ -5,6 +5,7 @@
 //! of the target which element came there, and says nothing of the order.
 #![tactic(auto)]
 
+mod appending;
 mod axes;
 mod axis;
 mod crossed;
@@ -14,7 +15,7 @@ mod runs;
 mod scattering;
 mod through;
 
-pub use gathering::gather;
+pub use gathering::{gather, gather_from};
 pub use rectangle::copy_rect;
 pub use scattering::scatter;
 
