@@ -1,7 +1,7 @@
 -- The lines of a block, as the code sees them.
 use Rattle.std.proofs.Common.{◌≡◌, ℕ, ◌+◌, ◌<◌, ◌≤◌, Bool, true, false, ◌&&◌, List, [], ◌∷◌, length, map, drop, get_or, Option, None, Some, Result, Ok, Err, OnOk, IfErr, IsErrOf, ℤ, refl, sym, ap, subst, ◌∙◌, arith, rules}
 use Rattle.std.proofs.lemmas.List.{drop_all}
-use Rattle.lg_tree.specs.Tree.{Tree, MaybeTree, LineTree, LineTrees, StatementTree, loop, line_trees}
+use Rattle.lg_tree.specs.Tree.{Tree, MaybeTree, LineTree, LineTrees, StatementTree, bind, update, put, update_at, print, loop, load, save, line_trees}
 use Rattle.lg_tree.specs.View.{tree_of, maybe_of, statement_of, line_of, lines_of}
 use Rattle.lg_tree.specs.declared.trees.Line.{Line}
 use Rattle.lg_meaning.specs.Run.{done, Progress, looped, run_lines, run_line, MAX_STATEMENTS}
@@ -9,11 +9,11 @@ use Rattle.lg_tree.specs.declared.trees.Expr.{Expr}
 use Rattle.lg_tree.specs.declared.trees.Statement.{Statement, For, the_lemmas}
 use Rattle.lg_meaning.specs.Memory.{State}
 use Rattle.lg_meaning.specs.Loops.{bounds_of}
-use Rattle.lg_session.specs.Built.{or_else, unless_built, unbuilt_in, unbuilt_at, is_built_tree, is_built_maybe}
+use Rattle.lg_session.specs.Built.{or_else, unless_built, is_built, unbuilt_in, unbuilt_at, is_built_tree, is_built_maybe}
 use Rattle.lg_session.specs.Standing.{StandsFor}
 use Rattle.lg_session.specs.declared.session.Session.{Session}
 use Rattle.lg_session.proofs.BuiltLemmas.{line-Line, both}
-use Rattle.legate.specs.Running.{block_turns, block_unbuilt, Goes, Halts, Cuts}
+use Rattle.legate.specs.Running.{is_loop, block_turns, block_unbuilt, Goes, Halts, Cuts}
 use Rattle.legate.specs.declared.running.RunStop.{RunStop}
 use Rattle.legate.specs.declared.running.RunStop.TheVariants.{NoMemory}
 use Rattle.legate.proofs.Runs.{nothing_run}
@@ -52,6 +52,30 @@ statement-For w from to body = search (rules, the_lemmas)
 -- what holds of the number and the statement of a line
 pub as_line : (line : Line) (P : LineTree → Type 0) → P (record { number = line.number; statement = statement_of line.statement }) → P (line_of line)
 as_line line P h = subst P (sym (line-Line line)) h
+
+-- a statement that is no loop is built where its line is not told as unbuilt
+no_loop : (s : Statement) → ((w : List ℕ) (from : Option Expr) (to : Expr) (body : List Line) → s ≡ For w from to body → ⊥) → is_loop (statement_of s) ≡ false
+no_loop s never = search (rules, the_lemmas)
+
+built_unless : (b : Bool) (n : ℕ) → unless_built b n None ≡ None → b ≡ true
+built_unless true n h = refl
+built_unless false n h = cc
+
+tree_built : (n : ℕ) (t : StatementTree) → is_loop t ≡ false → unbuilt_at n t ≡ None → is_built t ≡ true
+tree_built n (bind w e) other h = built_unless (is_built (bind w e)) n h
+tree_built n (update w op e) other h = built_unless (is_built (update w op e)) n h
+tree_built n (put w is e) other h = built_unless (is_built (put w is e)) n h
+tree_built n (update_at w is op e) other h = built_unless (is_built (update_at w is op e)) n h
+tree_built n (print e) other h = built_unless (is_built (print e)) n h
+tree_built n (load w file) other h = built_unless (is_built (load w file)) n h
+tree_built n (save file e) other h = built_unless (is_built (save file e)) n h
+tree_built n (loop w from to ls) other h = cc
+
+pub step_built : (line : Line) → ((w : List ℕ) (from : Option Expr) (to : Expr) (body : List Line) → line.statement ≡ For w from to body → ⊥)
+    → unbuilt_at (line_of line).number (line_of line).statement ≡ None → is_built (line_of line).statement ≡ true
+step_built line never h =
+    let same : (line_of line).statement ≡ statement_of line.statement = ap (λ (l : LineTree). l.statement) (line-Line line) in
+    tree_built (line_of line).number (line_of line).statement (ap is_loop same ∙ no_loop line.statement never) h
 
 -- a loop that is built has bounds and a block that are
 loop_built : (b : Bool) (n : ℕ) (rest : Option ℕ) → unless_built b n rest ≡ None → (b ≡ true) × (rest ≡ None)

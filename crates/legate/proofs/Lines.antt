@@ -1,6 +1,7 @@
 -- What the statement of one line does to the walk.
 use Rattle.std.proofs.Common.{◌≡◌, ℕ, ◌+◌, ◌≤◌, ◌<◌, suc, nat_lt, Bool, true, false, if◌then◌else◌, List, [], ◌++◌, Option, None, Some, Result, Ok, Err, refl, sym, ap, subst, ◌∙◌, append-nil, ℤ, pos, arith}
 use Rattle.std.proofs.lemmas.Bool.Decides.{nat_tests}
+use Rattle.std.specs.FinMap.{get}
 use Rattle.std.specs.Io.KnownBytes.{Appends}
 use Rattle.std.proofs.KnownBytes.{Appends-nil}
 use Rattle.lg_tree.specs.Tree.{Tree, MaybeTree, LineTree, LineTrees, StatementTree, bind, update, put, update_at, print, loop, load, save}
@@ -11,15 +12,17 @@ use Rattle.lg_meaning.specs.Loops.{bounds_of}
 use Rattle.lg_meaning.specs.declared.fault.FaultKind.{FaultKind}
 use Rattle.lg_meaning.specs.declared.fault.FaultKind.TheVariants.{Limit}
 use Rattle.lg_meaning.specs.Static.{Static}
-use Rattle.lg_meaning.specs.Expressions.{static_of, evaluated}
+use Rattle.lg_meaning.specs.Assignments.{target_of}
+use Rattle.lg_meaning.specs.Expressions.{static_of, items_of, evaluated}
 use Rattle.lg_meaning.specs.Text.{printed, printed_type}
-use Rattle.lg_meaning.specs.Step.{Stepped, step, bind_step, print_step, loop_step, text_unless, rebound}
+use Rattle.lg_meaning.specs.Step.{Stepped, step, bind_step, print_step, put_answer, update_answer, loop_step, text_unless, rebound}
 use Rattle.lg_meaning.specs.Run.{End, done, fault_at, Progress, after, going_on, end_by, stepped_on, stopped, stepped_at, turn_from, looped, run_lines, run_line, MAX_STATEMENTS}
 use Rattle.lg_session.specs.Built.{is_built}
 use Rattle.lg_session.specs.Standing.{StandsFor}
 use Rattle.lg_session.specs.Session.{FaultsAt, StopsAt}
 use Rattle.lg_session.specs.Turns.{StopsOpening}
 use Rattle.lg_session.specs.declared.session.Session.{Session}
+use Rattle.lg_session.proofs.WriteSteps.{update_text, write_text}
 use Rattle.lg_session.specs.declared.session.StopEnd.{StopEnd}
 use Rattle.lg_session.specs.declared.session.StopEnd.TheVariants.{Fault as FaultAt, NoMemory as NoRoom}
 use Rattle.legate.specs.Running.{IsAt, Gains, GainsPart, Passes, Goes, Stops, Halts, IsCut, Cuts, stop_of, Writes, WritesPart, StopsWriting}
@@ -46,9 +49,9 @@ past_limit n s p e = ap (λ b. if b then stepped_on n (step s p.state) p else st
 built_line : (n : ℕ) (s : StatementTree) (p : Progress) → is_built s ≡ true → p.end ≡ done → run_line n s p ≡ stepped_at n s p
 built_line n (bind w a) p built e = ap (λ end. after end p (stepped_at n (bind w a))) e
 built_line n (print a) p built e = ap (λ end. after end p (stepped_at n (print a))) e
-built_line n (update w op a) p built e = absurd (true_or_not true built)
-built_line n (put w is a) p built e = absurd (true_or_not true built)
-built_line n (update_at w is op a) p built e = absurd (true_or_not true built)
+built_line n (update w op a) p built e = ap (λ end. after end p (stepped_at n (update w op a))) e
+built_line n (put w is a) p built e = ap (λ end. after end p (stepped_at n (put w is a))) e
+built_line n (update_at w is op a) p built e = ap (λ end. after end p (stepped_at n (update_at w is op a))) e
 built_line n (loop w from to ls) p built e = absurd (true_or_not true built)
 built_line n (load w file) p built e = absurd (true_or_not true built)
 built_line n (save file a) p built e = absurd (true_or_not true built)
@@ -84,9 +87,9 @@ silent (print e) state kind built f = by_kind (static_of e state.names) f
     by_kind : (r : Result Static FaultKind) → (print_step e state r).fault ≡ Some kind → (print_step e state r).text ≡ []
     by_kind (Ok s) f = ap (λ o. text_unless o (printed (printed_type s) (evaluated e state.memory state.names).shape (evaluated e state.memory state.names).numbers)) f
     by_kind (Err fault) f = refl
-silent (update w op e) state kind built f = absurd (true_or_not true built)
-silent (put w is e) state kind built f = absurd (true_or_not true built)
-silent (update_at w is op e) state kind built f = absurd (true_or_not true built)
+silent (update w op e) state kind built f = update_text w op e state (get state.names w)
+silent (put w is e) state kind built f = write_text state (put_answer w is e state)
+silent (update_at w is op e) state kind built f = write_text state (update_answer op e state (target_of (get state.names w) (items_of is state.names)))
 silent (loop w from to ls) state kind built f = absurd (true_or_not true built)
 silent (load w file) state kind built f = absurd (true_or_not true built)
 silent (save file e) state kind built f = absurd (true_or_not true built)

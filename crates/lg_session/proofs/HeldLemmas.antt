@@ -162,7 +162,7 @@ kept_unreached names root A C free others w view is = others view.root (λ e. fr
 pub tidy_same : (A : Roots) (old new : CodeNames) → ((w : List ℕ) → bound_at new w ≡ bound_at old w) → (root : ℕ) → IsTidyAt A old root → IsTidyAt A new root
 tidy_same A old new same root tidy free = tidy (λ r. free (record { name = r.name; view = r.view; bound = same r.name ∙ r.bound; of_root = r.of_root }))
 
-unequal : (a b : ℕ) → (a == b) ≡ false → a ≡ b → ⊥
+pub unequal : (a b : ℕ) → (a == b) ≡ false → a ≡ b → ⊥
 unequal a b n e = differ (a == b) n (eq-eqb a b e)
   where
     differ : (t : Bool) → t ≡ false → t ≡ true → ⊥

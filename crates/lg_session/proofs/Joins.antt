@@ -19,7 +19,7 @@ the_some x y e = ap (λ o. unwrap_or o x) e
 extent_fits : (x y n : ℕ) → joined_extent x y ≡ Some n → ((x ≡ n) ⊎ (x ≡ 1)) × ((y ≡ n) ⊎ (y ≡ 1))
 extent_fits x y n e = grind (arith, nat_tests)
 
-same_fits : (shape : List ℕ) → FitsFromLast shape shape
+pub same_fits : (shape : List ℕ) → FitsFromLast shape shape
 same_fits [] = tt
 same_fits (x ∷ shape) = (inl refl, same_fits shape)
 

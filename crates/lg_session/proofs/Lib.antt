@@ -24,6 +24,7 @@ mod Indexed
 mod Windows
 pub mod ViewLemmas
 pub mod AxesLemmas
+pub mod Onces
 pub mod Picked
 pub mod ViewedLemmas
 pub mod Repeatings
@@ -41,3 +42,10 @@ mod Copyings
 pub mod LoopLemmas
 pub mod StatementLemmas
 pub mod Printing
+mod Storing
+mod RootLemmas
+pub mod Writes
+pub mod WriteHeld
+mod Fillings
+pub mod Targets
+pub mod WriteSteps

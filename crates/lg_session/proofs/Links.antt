@@ -5,7 +5,7 @@ use Rattle.std.proofs.lemmas.List.{same_lists, length-map}
 use Rattle.std.proofs.lemmas.List.FromFn.{length-range_with_len, get_or-range_with_len}
 use Rattle.std.proofs.lemmas.Option.{slice_get-map, slice_get_within, slice_get-get_or, get_or_from_slice_get, same_Some}
 use Rattle.lg_meaning.specs.Memory.{Root, View, Bound, weak, array, numbers_of}
-use Rattle.lg_session.specs.Worlds.{Roots, Names, Place, number_at, shown_in, put, SameKind, SameBound, AtOneIndex, Linked, Stands, IsShown, AreInside}
+use Rattle.lg_session.specs.Worlds.{Roots, Names, Place, number_at, shown_in, put, SameKind, SameBound, AtOneIndex, Linked, Stands, IsShown, AreInside, NoRepeat}
 
 -- ---- one link
 
@@ -129,10 +129,6 @@ pub rebound : (A B C D : Roots) (m n : Names) (w : List ℕ) (x y : Bound) → S
 rebound A B C D m n w x y s same old here there =
     narrowed A B C D m n (put m w x) (put n w y) s (put_same m n w x y same s.same)
     (λ p q link. ⊎_elim (old p q) (λ h. h) (put_linked m n w x y p q link)) here there
-
--- no place stands twice in a list
-abbrev pub NoRepeat : List ℕ → Type 0
-NoRepeat places = (i j place : ℕ) → slice_get places i ≡ Some place → slice_get places j ≡ Some place → i ≡ j
 
 repeat_alike : (a b : View) → NoRepeat a.places → NoRepeat b.places → (p q r t : Place) → AtOneIndex a b p q → AtOneIndex a b r t → (p ≡ r) ↔ (q ≡ t)
 repeat_alike a b first second p q r t x y = (forward, backward)

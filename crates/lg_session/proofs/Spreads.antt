@@ -8,7 +8,7 @@ use Rattle.lg_space.specs.Rectangle.{IsIn}
 use Rattle.lg_space.proofs.Inside.{same_axes}
 use Rattle.lg_shape.specs.Shapes.{whole, pinned, aligned, place_of, size_of}
 
-length-whole : (shape : List ℕ) → length (whole shape) ≡ length shape
+pub length-whole : (shape : List ℕ) → length (whole shape) ≡ length shape
 length-whole shape = length-map {B = ℕ × ℕ} shape (λ (extent : ℕ). (0, extent))
 
 -- ---- a value of the shape of the result

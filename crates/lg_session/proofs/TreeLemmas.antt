@@ -3,13 +3,13 @@ use Rattle.std.proofs.Common.{◌≡◌, ℕ, List, Option, Result, map, rules, 
 use Rattle.lg_elem.specs.declared.dtype.DType.{DType}
 use Rattle.lg_elem.specs.declared.kinds.Compare.{Compare as CompareKind}
 use Rattle.lg_tree.specs.declared.kinds.Arith.{Arith as ArithKind}
-use Rattle.lg_tree.specs.Tree.{Tree, arith, compare, full, zeros, ones, arange, array, minimum, maximum, choose, transpose, one, tuple, leaf, list, bind, print, index, at, slice, new_axis, ellipsis, broadcast_to}
+use Rattle.lg_tree.specs.Tree.{Tree, arith, compare, full, zeros, ones, arange, array, minimum, maximum, choose, transpose, one, tuple, leaf, list, bind, update, put, update_at, print, index, at, slice, new_axis, ellipsis, broadcast_to}
 use Rattle.lg_tree.specs.View.{tree_of, trees, list_of, shape_of, maybe_tree, maybe_shape, list_trees, statement_of, item_of, item_trees}
 use Rattle.lg_tree.specs.declared.trees.Expr.{Expr, Arith, Compare, Full, Zeros, Ones, Arange, Array, Minimum, Maximum, Where, Transpose, the_lemmas, Index, BroadcastTo}
 use Rattle.lg_tree.specs.declared.trees.ShapeExpr.{ShapeExpr, One, Tuple}
 use Rattle.lg_tree.specs.declared.trees.Item.{Item, At, Slice, NewAxis, Ellipsis}
 use Rattle.lg_tree.specs.declared.trees.ListExpr.{ListExpr, Leaf, List as Listed}
-use Rattle.lg_tree.specs.declared.trees.Statement.{Bind, Print}
+use Rattle.lg_tree.specs.declared.trees.Statement.{Bind, Update, Put, UpdateAt, Print}
 use Rattle.lg_tree.specs.declared.trees.Statement as statement
 use Rattle.lg_meaning.specs.Memory.{State}
 use Rattle.lg_session.specs.Values.{Means, IsOutcome}
@@ -86,6 +86,15 @@ statement-Bind w e = search (rules, statement.the_lemmas)
 
 pub statement-Print : (e : Expr) → statement_of (Print e) ≡ print (tree_of e)
 statement-Print e = search (rules, statement.the_lemmas)
+
+pub statement-Update : (w : List ℕ) (op : ArithKind) (e : Expr) → statement_of (Update w op e) ≡ update w op (tree_of e)
+statement-Update w op e = search (rules, statement.the_lemmas)
+
+pub statement-Put : (w : List ℕ) (is : List Item) (e : Expr) → statement_of (Put w is e) ≡ put w (item_trees (map item_of is)) (tree_of e)
+statement-Put w is e = search (rules, statement.the_lemmas)
+
+pub statement-UpdateAt : (w : List ℕ) (is : List Item) (op : ArithKind) (e : Expr) → statement_of (UpdateAt w is op e) ≡ update_at w (item_trees (map item_of is)) op (tree_of e)
+statement-UpdateAt w is op e = search (rules, statement.the_lemmas)
 
 module _ (state : State) (session : Session) where
   pub means_of : (x l : Expr) (p : Value) → x ≡ l → Means (tree_of x) state session p → Means (tree_of l) state session p

@@ -75,7 +75,7 @@ size-new_shape place missing (extent ∷ shape) (Slice start stop step ∷ items
     (omega (arith, kept_most extent start stop)) rest
 
 -- where an index has no fault, no item has one
-items_sound : (shape : List ℕ) (items : List IndexItem) → index_fault shape items ≡ None → item_fault 0 (missing_axes shape items) shape items ≡ None
+pub items_sound : (shape : List ℕ) (items : List IndexItem) → index_fault shape items ≡ None → item_fault 0 (missing_axes shape items) shape items ≡ None
 items_sound shape items none = first (nat_lt 1 (ellipses items)) none
   where
     found : Option IndexFault

@@ -1,6 +1,6 @@
 -- Which forms of the language a session evaluates so far. This project's own.
 use Rattle.std.specs.Prelude.{ℕ, Bool, true, false, ◌&&◌, List, Option, Some, None}
-use Rattle.lg_tree.specs.Tree.{Tree, number, truth, name, neg, invert, arith, compare, index, full, zeros, ones, arange, array, abs, minimum, maximum, choose, transpose, broadcast_to, copy, flatten, as_type, reshape, MaybeTree, no_tree, some_tree, Trees, no_trees, more_trees, ShapeTree, one, tuple, MaybeShape, no_shape, some_shape, ItemTree, at, slice, ItemTrees, no_items, more_items, ListTree, leaf, list, ListTrees, no_lists, more_lists, StatementTree, bind, print, loop, LineTrees, no_lines, more_lines, LineTree, line_trees}
+use Rattle.lg_tree.specs.Tree.{Tree, number, truth, name, neg, invert, arith, compare, index, full, zeros, ones, arange, array, abs, minimum, maximum, choose, transpose, broadcast_to, copy, flatten, as_type, reshape, MaybeTree, no_tree, some_tree, Trees, no_trees, more_trees, ShapeTree, one, tuple, MaybeShape, no_shape, some_shape, ItemTree, at, slice, ItemTrees, no_items, more_items, ListTree, leaf, list, ListTrees, no_lists, more_lists, StatementTree, bind, update, put, update_at, print, loop, LineTrees, no_lines, more_lines, LineTree, line_trees}
 
 abbrev mutual
   pub is_built_tree : Tree → Bool
@@ -63,9 +63,12 @@ abbrev mutual
   are_built_lists no_lists = true
   are_built_lists (more_lists l ls) = is_built_list l && are_built_lists ls
 
--- the statement of a line without a block: an assignment to a name, or a print
+-- the statement of a line without a block: an assignment, an update, or a print
 abbrev pub is_built : StatementTree → Bool
 is_built (bind w e) = is_built_tree e
+is_built (update w op e) = is_built_tree e
+is_built (put w is e) = are_built_items is && is_built_tree e
+is_built (update_at w is op e) = are_built_items is && is_built_tree e
 is_built (print e) = is_built_tree e
 is_built s = false
 

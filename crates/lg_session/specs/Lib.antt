@@ -24,3 +24,5 @@ pub mod Built
 pub mod Repeating
 pub mod Reshaping
 pub mod Copying
+pub mod Puts
+pub mod Writing

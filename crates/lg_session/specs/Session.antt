@@ -3,7 +3,7 @@ use Rattle.std.specs.Prelude.{◌≡◌, ℕ, Bool, List, None, Some, Result, Ok
 use Rattle.std.specs.declared.alloc.Global.{Global}
 use Rattle.lg_tree.specs.Tree.{Tree, StatementTree, bind, print, LineTree}
 use Rattle.lg_meaning.specs.Memory.{State}
-use Rattle.lg_meaning.specs.Step.{step}
+use Rattle.lg_meaning.specs.Step.{Stepped, step}
 use Rattle.lg_meaning.specs.declared.fault.FaultKind.{FaultKind}
 use Rattle.lg_session.specs.Roots.{contents}
 use Rattle.lg_session.specs.Stored as stored
@@ -53,16 +53,23 @@ IsExecuted statement state (Ok text) session = Executes statement state text.ite
 IsExecuted statement state (Err (Fault kind)) session = (step statement state).fault ≡ Some kind
 IsExecuted statement state (Err NoMemory) session = ⊤
 
--- the assignment has no fault, and the session stands for the state after it
-pub record Binds (w : List ℕ) (e : Tree) (state : State) (session : Session) : Type 0 where
-  pub sound : (step (bind w e) state).fault ≡ None
-  pub stands : StandsFor session (step (bind w e) state).state
+-- what a statement does has no fault, and the session stands for the state after it
+pub record Leaves (after : Stepped) (session : Session) : Type 0 where
+  pub sound : after.fault ≡ None
+  pub stands : StandsFor session after.state
 
--- the answer of an assignment
+-- the answer of a statement that prints nothing
+abbrev pub IsDone : Stepped → Session → Result (Unit {0}) EvaluateEnd → Type 0
+IsDone after session (Ok _) = Leaves after session
+IsDone after session (Err (Fault kind)) = after.fault ≡ Some kind
+IsDone after session (Err NoMemory) = ⊤
+
+-- the same of an assignment to a name
+abbrev pub Binds : List ℕ → Tree → State → Session → Type 0
+Binds w e state session = Leaves (step (bind w e) state) session
+
 abbrev pub IsBound : List ℕ → Tree → State → Session → Result (Unit {0}) EvaluateEnd → Type 0
-IsBound w e state session (Ok _) = Binds w e state session
-IsBound w e state session (Err (Fault kind)) = (step (bind w e) state).fault ≡ Some kind
-IsBound w e state session (Err NoMemory) = ⊤
+IsBound w e state session result = IsDone (step (bind w e) state) session result
 
 -- the print has no fault, and prints this text
 pub record Prints (e : Tree) (state : State) (bytes : List ℕ) : Type 0 where

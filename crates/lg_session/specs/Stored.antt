@@ -2,12 +2,13 @@
 use Rattle.std.specs.Prelude.{◌≡◌, ◌<◌, ◌≤◌, ℕ, List, length, None, Some, IsSomeAnd, slice_get}
 use Rattle.std.specs.List.{range_with_len}
 use Rattle.lg_store.specs.declared.view.View.{View}
+use Rattle.lg_store.specs.declared.view.Right.TheVariants.{Writable}
 use Rattle.lg_space.specs.Stored.{MAX_VOLUME}
 use Rattle.lg_xform.specs.Chains.{layout_of, shape_of, root_of, inner_of, IsUnsplit}
 use Rattle.lg_shape.specs.Shapes.{size_of}
 use Rattle.lg_meaning.specs.Memory.{Root}
 use Rattle.lg_session.specs.Operations.{weak_of, IsRanged}
-use Rattle.lg_session.specs.Worlds.{Roots}
+use Rattle.lg_session.specs.Worlds.{Roots, NoRepeat}
 use Rattle.lg_session.specs.Names.{bound_at, IsReached}
 use Rattle.lg_session.specs.declared.names.Bound.{Bound}
 use Rattle.lg_session.specs.declared.names.Bound.TheVariants.{Weak, Array}
@@ -16,7 +17,8 @@ use Rattle.lg_session.specs.declared.operations.values.Weak.{Weak as CodeWeak}
 
 -- the root has the view's type, and the view's chain leads into it: each of its places is one of
 -- the root. No axis of it was split, so that indices can pick among its elements, and it has no
--- more elements than a tile can have
+-- more elements than a tile can have. Where it may be written, no place of the root is twice in it,
+-- so that each place gets one number
 pub record IsViewOf (view : View) (root : Root) : Type 0 where
   pub dtype : root.dtype ≡ view.dtype
   pub shape : root_of view.chain ≡ root.shape
@@ -25,6 +27,7 @@ pub record IsViewOf (view : View) (root : Root) : Type 0 where
   pub unsplit : IsUnsplit (inner_of view.chain)
   pub inside : (index place : ℕ) → slice_get (layout_of view.chain).places index ≡ Some place
       → place < length root.numbers
+  pub once : view.right ≡ Writable → NoRepeat (layout_of view.chain).places
 
 -- it is a view of some root
 pub record IsViewOfSome (view : View) : Type 0 where

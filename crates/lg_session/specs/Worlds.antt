@@ -73,6 +73,11 @@ pub record IsShown (m n : Names) (a b : View) : Type 0 where
 
 -- ---- one world
 
+-- no place is twice among a view's places
+abbrev pub NoRepeat : List ℕ → Type 0
+NoRepeat places = (i j place : ℕ) → slice_get places i ≡ Some place → slice_get places j ≡ Some place
+    → i ≡ j
+
 -- the view's root is there and has the view's type and places
 pub record IsInside (roots : Roots) (view : View) : Type 0 where
   pub root : Root

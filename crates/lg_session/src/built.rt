@@ -35,7 +35,7 @@ fn unbuilt_at(number: u64, statement: &Statement) -> Option<u64>
         Statement::For { from, to, body, .. } if are_built_bounds(from, to) => {
             unbuilt_in(body.as_slice())
         }
-        Statement::Bind { .. } | Statement::Print { .. } if is_built(statement) => None,
+        _ if is_built(statement) => None,
         _ => Some(number),
     }
 }
@@ -56,13 +56,13 @@ pub fn is_built(statement: &Statement) -> bool
     ensures { result ≡ is_built_statement (statement_of statement.now) }
 {
     match statement {
-        Statement::Bind { value, .. } | Statement::Print { value } => is_built_expr(value),
-        Statement::Update { .. }
-        | Statement::Put { .. }
-        | Statement::UpdateAt { .. }
-        | Statement::For { .. }
-        | Statement::Load { .. }
-        | Statement::Save { .. } => false,
+        Statement::Bind { value, .. }
+        | Statement::Update { value, .. }
+        | Statement::Print { value } => is_built_expr(value),
+        Statement::Put { index, value, .. } | Statement::UpdateAt { index, value, .. } => {
+            are_built_items(index.as_slice()) && is_built_expr(value)
+        }
+        Statement::For { .. } | Statement::Load { .. } | Statement::Save { .. } => false,
     }
 }
 

@@ -19,6 +19,7 @@ mod views;
 use crate::evaluation::copies::evaluate_copy;
 use crate::evaluation::creation::evaluate_creation;
 use crate::evaluation::operators::{evaluate_operation, evaluate_operator};
+pub(crate) use crate::evaluation::parts::evaluate_items;
 use crate::evaluation::views::evaluate_view;
 use crate::names::Bound;
 use crate::operations::{EvaluateEnd, Weak};
@@ -71,8 +72,8 @@ pub(crate) fn evaluate(alloc: Global, session: &Session, value: &Expr) -> Result
     }
 }
 
-// What a name stands for.
-fn named(session: &Session, word: &[u8]) -> Result<Value, EvaluateEnd>
+/// What a name stands for.
+pub(crate) fn named(session: &Session, word: &[u8]) -> Result<Value, EvaluateEnd>
     ensures usable { IfOk result (IsUsable (contents session.now.roots)) }
     ensures outcome { (state : State) → StandsFor session.now state
         → IsOutcome (name_tree word.now) state session.now result }

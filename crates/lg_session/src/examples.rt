@@ -2,7 +2,7 @@
 ghost use Rattle.std.specs.Prelude.{◌≡◌, codes, None, Some, true, false, [], ◌∷◌};
 ghost use Rattle.lg_elem.specs.declared.dtype.DType.TheVariants.{Int8};
 ghost use Rattle.lg_tree.specs.declared.kinds.Arith.TheVariants.{Add};
-ghost use Rattle.lg_tree.specs.Tree.{number, name, neg, arith, matmul, zeros, arange, array, choose, index, transpose, broadcast_to, copy, flatten, as_type, reshape, some_tree, no_tree, no_trees, more_trees, one, tuple, no_shape, some_shape, at, slice, new_axis, ellipsis, no_items, more_items, leaf, list, no_lists, more_lists, bind, print, loop, load, no_lines, more_lines};
+ghost use Rattle.lg_tree.specs.Tree.{number, name, neg, arith, matmul, zeros, arange, array, choose, index, transpose, broadcast_to, copy, flatten, as_type, reshape, some_tree, no_tree, no_trees, more_trees, one, tuple, no_shape, some_shape, at, slice, new_axis, ellipsis, no_items, more_items, leaf, list, no_lists, more_lists, bind, update, put, update_at, print, loop, load, no_lines, more_lines};
 ghost use Rattle.lg_session.specs.Built.{is_built_tree, is_built, first_unbuilt};
 
 /// Which forms a session evaluates so far: each part has to be one of them, wherever it stands.
@@ -58,6 +58,13 @@ pub fn built_by_example()
         (one (number 2))) ≡ false }
     ensures reshaped_extent { is_built_tree (reshape (name (codes "a"))
         (one (matmul (number 2) (number 2)))) ≡ false }
+    ensures written { is_built (put (codes "a") (more_items (at (number 0)) no_items) (number 1))
+        ≡ true }
+    ensures written_place { is_built (put (codes "a")
+        (more_items (at (matmul (number 0) (number 0))) no_items) (number 1)) ≡ false }
+    ensures updated { is_built (update (codes "a") Add (number 1)) ≡ true }
+    ensures updated_part { is_built (update_at (codes "a") (more_items ellipsis no_items) Add
+        (matmul (number 1) (number 1))) ≡ false }
     ensures bound_name { is_built (bind (codes "a") (number 1)) ≡ true }
     ensures file { is_built (load (codes "a") (codes "b")) ≡ false }
     ensures none { first_unbuilt (record { number = 2; statement = print (number 1) } ∷ [])

@@ -295,8 +295,8 @@ fn lent(shape: &Option<Vec<u64>>) -> Option<&[u64]>
     }
 }
 
-// The operation on elements that an operator stands for.
-fn operation(op: Arith) -> Binary
+/// The operation on elements that an operator stands for.
+pub(crate) fn operation(op: Arith) -> Binary
     ensures { result ≡ operation_of op }
 {
     match op {

@@ -21,6 +21,7 @@ mod value;
 mod viewing;
 mod views;
 mod weak_values;
+mod writing;
 
 pub use built::{first_unbuilt, is_built};
 pub use examples::built_by_example;

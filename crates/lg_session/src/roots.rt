@@ -1,7 +1,18 @@
 ghost use Rattle.std.specs.Prelude.{◌≡◌, ◌≢◌, ℕ, None, Some, IfOk, OnErr, IsSome};
+ghost use Rattle.lg_shape.specs.Shapes.{whole};
+ghost use Rattle.lg_tile.specs.Tiles.{dtype_of, numbers, rect_of};
+ghost use Rattle.lg_xform.specs.Chains.{layout_of, root_of as root_shape, shape_of};
+ghost use Rattle.lg_session.specs.Names.{view_of};
 ghost use Rattle.lg_session.specs.Operations.{IsWhole};
+ghost use Rattle.lg_session.specs.Puts.{Puts, Writes};
+ghost use Rattle.lg_session.specs.Stored.{IsHeld};
+ghost use Rattle.lg_session.specs.Worlds.{NoRepeat};
 
+use crate::operations::is_whole;
+use lg_copy::scatter;
+use lg_store::View;
 use lg_tile::AnyTile;
+use lg_xform::Chain;
 use std::alloc::{AllocError, Global};
 
 /// The roots that there are: whole typed elements, by number from 0 on. No number is given twice.
@@ -57,6 +68,19 @@ impl Roots {
         &whole.tile
     }
 
+    /// Writes a tile through a view of a root: each element to the place that the view has at its
+    /// index. All other elements stay. It takes no memory.
+    pub(crate) fn write(&mut self, target: &View, tile: AnyTile)
+        requires held { IsHeld (contents self.old) target.now }
+        requires dtype { dtype_of tile ≡ target.now.dtype }
+        requires rect { rect_of tile ≡ whole (shape_of target.now.chain) }
+        requires once { NoRepeat (layout_of target.now.chain).places }
+        ensures { Writes (contents self.old) (contents self.new) (view_of target.now) (numbers tile) }
+    {
+        let root = self.tiles[target.root as usize].as_mut().unwrap();
+        root.write(&target.chain, tile);
+    }
+
     /// Takes a root away. Its number is not given again.
     pub(crate) fn forget(&mut self, root: u64)
         ensures gone { contents self.new root ≡ None }
@@ -66,5 +90,29 @@ impl Roots {
         if let Some(slot) = self.tiles.get_mut(root as usize) {
             *slot = None;
         }
+    }
+}
+
+impl WholeTile {
+    // Writes a tile through a view of this one. The tile itself is kept where the view is the whole.
+    fn write(&mut self, chain: &Chain, tile: AnyTile)
+        requires dtype { dtype_of tile ≡ dtype_of self.old.tile }
+        requires rect { rect_of tile ≡ whole (shape_of chain.now) }
+        requires root { rect_of self.old.tile ≡ whole (root_shape chain.now) }
+        requires once { NoRepeat (layout_of chain.now).places }
+        ensures dtype { dtype_of self.new.tile ≡ dtype_of self.old.tile }
+        ensures rect { rect_of self.new.tile ≡ rect_of self.old.tile }
+        ensures puts { Puts (layout_of chain.now).places (numbers tile) (numbers self.old.tile)
+            (numbers self.new.tile) }
+    {
+        // What is known of every rectangle, its limits, is told with its ranges, and what is known of
+        // every chain with its root.
+        let _limits = self.tile.rect().ranges();
+        let _root = chain.root();
+        if is_whole(chain) {
+            self.tile = tile;
+            return;
+        }
+        scatter(&tile, chain, &mut self.tile);
     }
 }

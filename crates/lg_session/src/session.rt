@@ -150,12 +150,26 @@ impl Session {
                 Ok(Vec::new(alloc))
             }
             Statement::Print { value } => self.print(alloc, value),
-            Statement::Update { .. }
-            | Statement::Put { .. }
-            | Statement::UpdateAt { .. }
-            | Statement::For { .. }
-            | Statement::Load { .. }
-            | Statement::Save { .. } => unreachable!(),
+            Statement::Update { name, op, value } => {
+                self.update(alloc, name.as_slice(), *op, value)?;
+                Ok(Vec::new(alloc))
+            }
+            Statement::Put { name, index, value } => {
+                self.put(alloc, name.as_slice(), index.as_slice(), value)?;
+                Ok(Vec::new(alloc))
+            }
+            Statement::UpdateAt {
+                name,
+                index,
+                op,
+                value,
+            } => {
+                self.update_at(alloc, name.as_slice(), index.as_slice(), *op, value)?;
+                Ok(Vec::new(alloc))
+            }
+            Statement::For { .. } | Statement::Load { .. } | Statement::Save { .. } => {
+                unreachable!()
+            }
         }
     }
 
@@ -185,9 +199,9 @@ impl Session {
         self.bind_value(word, value)
     }
 
-    // Lets a name stand for a value: a view is shared, and a new array becomes a root. With a fault
-    // of an element the name is bound all the same.
-    fn bind_value(&mut self, word: &[u8], value: Value) -> Result<(), EvaluateEnd>
+    /// Lets a name stand for a value: a view is shared, and a new array becomes a root. With a fault
+    /// of an element the name is bound all the same.
+    pub(crate) fn bind_value(&mut self, word: &[u8], value: Value) -> Result<(), EvaluateEnd>
         requires { IsUsable (contents self.old.roots) value }
         ensures outcome { (state : State) (e : Tree) → StandsFor self.old state
             → Means e state self.old value → IsBound word.now e state self.new result }
@@ -250,8 +264,8 @@ impl Session {
         }
     }
 
-    // A view as an operation reads it.
-    fn read_view<'a>(&'a self, view: &'a View) -> Operand<'a>
+    /// A view as an operation reads it.
+    pub(crate) fn read_view<'a>(&'a self, view: &'a View) -> Operand<'a>
         requires { IsHeld (contents self.now.roots) view.now }
         ensures kind { operand_static result ≡ array_value (view_of view.now).kind }
         ensures same { operand_value result

@@ -19,8 +19,8 @@ use crate::views::{index_fresh, index_shown, index_weak};
 use lg_shape::IndexItem;
 use std::alloc::Global;
 
-// The most items that an index is read with.
-const MOST_ITEMS: usize = u32::MAX as usize;
+/// The most items that an index is read with.
+pub(crate) const MOST_ITEMS: usize = u32::MAX as usize;
 
 /// `a[items]`: an element of a view is copied.
 ///

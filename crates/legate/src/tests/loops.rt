@@ -14,7 +14,11 @@ use std::test::Fail;
 fn turns(rt: HostRuntime) -> Result<(), Fail> {
     let rows = [
         ("for i in range(2):\n    print(i)", "0\n1\n"),
-        ("x = 0\nfor i in range(5):\n    x = x + i\nprint(x)", "10\n"),
+        ("x = 0\nfor i in range(5):\n    x += i\nprint(x)", "10\n"),
+        (
+            "a = zeros((4, 4))\na[0] = 100\nc = a[1:3, 1:3]\nn = a[0:2, 1:3]\ns = a[2:4, 1:3]\nw = a[1:3, 0:2]\ne = a[1:3, 2:4]\nfor t in range(2):\n    c[:] = (c + n + s + w + e) // 5\nprint(a)",
+            "[[100, 100, 100, 100], [0, 28, 28, 0], [0, 4, 4, 0], [0, 0, 0, 0]]\n",
+        ),
         ("for i in range(-2, 1):\n    print(i)", "-2\n-1\n0\n"),
         (
             "for i in range(2):\n    print(i)\n    i = 7\n    print(i)\nprint(i)",
@@ -125,13 +129,13 @@ fn faults(rt: HostRuntime) -> Result<(), Fail> {
 fn limits(rt: HostRuntime) -> Result<(), Fail> {
     let rows = [
         (
-            "x = 0\nfor i in range(99997):\n    x = x + 1\nprint(x)",
+            "x = 0\nfor i in range(99997):\n    x += 1\nprint(x)",
             0,
             "99997\n",
             "",
         ),
         (
-            "x = 0\nfor i in range(99998):\n    x = x + 1\nprint(x)",
+            "x = 0\nfor i in range(99998):\n    x += 1\nprint(x)",
             4,
             "",
             "line 4: limit\n",

@@ -105,6 +105,80 @@ fn names_share_arrays(rt: HostRuntime) -> Result<(), Fail> {
     expect(&rt, rt.alloc(), script, "[14, 14, 14]\n[7, 7, 7]\n5\n", end)
 }
 
+// Writes are seen through every view that shares the place, and an element that is read is a copy.
+#[test]
+fn writes(rt: HostRuntime) -> Result<(), Fail> {
+    let rows = [
+        (
+            "a = arange(5)\na[1:] = a[:-1]\nprint(a)",
+            "[0, 0, 1, 2, 3]\n",
+        ),
+        (
+            "a = arange(4)\ns = a[2]\nv = a[2, ...]\na[2] = 9\nprint(s)\nprint(v)",
+            "2\n9\n",
+        ),
+        ("a = arange(4)\na[1:] += a[:-1]\nprint(a)", "[0, 1, 3, 5]\n"),
+        (
+            "a = arange(6).reshape((2, 3))\nt = a.T\nt[0, 1] = 9\nprint(a)",
+            "[[0, 1, 2], [9, 4, 5]]\n",
+        ),
+        (
+            "a = arange(6).reshape((2, 3))\na[:, 0] = array([[7, 8]])\nprint(a)",
+            "[[7, 1, 2], [8, 4, 5]]\n",
+        ),
+        (
+            "a = zeros((2, 2), bool)\na[0] = array([0, 256])\nprint(a)",
+            "[[False, True], [False, False]]\n",
+        ),
+        ("x = 2\nx **= 3\nprint(x)", "8\n"),
+    ];
+    for (script, printed) in rows {
+        expect(&rt, rt.alloc(), script, printed, None)?;
+    }
+    Ok(())
+}
+
+// An update wraps to the target's type where that is of no lower kind.
+#[test]
+fn updates_across_types(rt: HostRuntime) -> Result<(), Fail> {
+    let script =
+        "a = arange(3)\na[0] += 300\nb = a.astype(int8)\nprint(b)\nb += a\nprint(b)\nc = a.astype(uint8)\nc += b";
+    let end = Some(StopEnd::Fault {
+        line: 8,
+        kind: FaultKind::TypeKind,
+    });
+    expect(&rt, rt.alloc(), script, "[44, 1, 2]\n[88, 2, 4]\n", end)
+}
+
+// A target that cannot be written, and what it does not take.
+#[test]
+fn faults_of_writes(rt: HostRuntime) -> Result<(), Fail> {
+    let rows = [
+        (
+            "b = broadcast_to(full(1, 2), (3,))\nb[0] = 1",
+            FaultKind::ReadOnly,
+        ),
+        (
+            "b = broadcast_to(full(1, 2), (3,))\nb += 1",
+            FaultKind::ReadOnly,
+        ),
+        ("b = zeros(3, int8)\nb[0] = 128", FaultKind::Range),
+        (
+            "b = zeros(3, uint8)\nb += zeros(3, int8)",
+            FaultKind::TypeKind,
+        ),
+        ("b = zeros(3)\nb[:] = zeros((2, 3))", FaultKind::Shape),
+        ("b = zeros(3)\nb[3] = 1", FaultKind::Index),
+        ("b = 3\nb[0] = 1", FaultKind::TypeKind),
+        ("b = zeros(3)\nb //= 0 * b", FaultKind::Divisor),
+    ];
+    for (script, kind) in rows {
+        let end = Some(StopEnd::Fault { line: 2, kind });
+        expect(&rt, rt.alloc(), script, "", end)?;
+    }
+    Ok(())
+}
+
 // What threads may hold.
 fn crosses_threads<T: Send + Sync>() {}
 

@@ -68,7 +68,7 @@ pub(super) fn evaluate_axes(
 /// is no integer. Each expression is evaluated, also behind such a one.
 #[cycle(walk)]
 #[tactic(auto, using(crate::proofs::BuiltLemmas::item_built_at))]
-pub(super) fn evaluate_items(
+pub(crate) fn evaluate_items(
     alloc: Global,
     session: &Session,
     items: &[Item],

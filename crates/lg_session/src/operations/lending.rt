@@ -113,9 +113,9 @@ fn lend_view<'a>(tile: &'a AnyTile, chain: &Chain, shape: &Shape) -> Lent<'a>
     Lent::Viewed(tile, chain.broadcast(shape))
 }
 
-// Each element's number is one of its type. The loop reads each element, so that the check knows
-// it; it has no effect, and none is left of it in the compiled code.
-fn numbers_fit(tile: &AnyTile)
+/// Each element's number is one of its type. The loop reads each element, so that the check knows
+/// it; it has no effect, and none is left of it in the compiled code.
+pub fn numbers_fit(tile: &AnyTile)
     ensures { (place : ℕ)
         → IsNumber (dtype_of tile.now) (slice_index_or (numbers tile.now) place (pos 0)) }
 {

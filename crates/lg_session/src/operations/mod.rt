@@ -3,6 +3,7 @@
 mod copies;
 mod elementwise;
 mod end;
+mod filling;
 mod gathering;
 mod lending;
 mod limits;
@@ -19,7 +20,8 @@ mod written;
 pub(crate) use copies::{rule_of_copy, rule_of_flatten};
 pub use elementwise::{as_type, binary, choose, compare, unary};
 pub use end::EvaluateEnd;
-pub(crate) use gathering::gather;
+pub(crate) use filling::{is_writable, rule_of_update, taken, taken_fresh};
+pub(crate) use gathering::{gather, is_whole};
 pub use making::{counted, full, listed, ones, zeros};
 pub(crate) use reshaping::{in_shape, rule_of_reshape};
 pub(crate) use rules::shape_in;

@@ -39,8 +39,8 @@ fn weak_type(x: Weak) -> DType
     }
 }
 
-// Whether the type has a number for this one.
-fn is_literal(t: DType, x: i128) -> bool
+/// Whether the type has a number for this one.
+pub fn is_literal(t: DType, x: i128) -> bool
     ensures { result ≡ is_literal_of t x }
 {
     literal(x, t).is_ok()

@@ -10,7 +10,7 @@ use Rattle.lg_session.specs.Turns.{bounds_in}
 use Rattle.legate.specs.Running.{Goes, Halts, Cuts}
 use Rattle.legate.proofs.Walks.{midway_none, midway_more, midway_done, midway_stops, midway_cut, midway_full}
 use Rattle.legate.proofs.Runs.{lines_run, turns_run}
-use Rattle.legate.proofs.Blocks.{lines_split, lines_built, lines_end, err_of, as_line, turns_seen, loop_goes, loop_halts, loop_cuts}
+use Rattle.legate.proofs.Blocks.{lines_split, lines_built, lines_end, err_of, as_line, turns_seen, loop_goes, loop_halts, loop_cuts, step_built}
 use Rattle.legate.proofs.Turns.{turns_begin, turns_end, turn_done, turn_stops, turn_cut, ranged_first, ranged_next, test_true, test_false}
 use Rattle.legate.proofs.walk.+lines.Goals as goal
 
@@ -181,3 +181,10 @@ run_line-returns-in-For-clause-cut g t c = λ no.
     as_line c.args.line.now
     (λ l. Cuts c.args.count.now c.run_loop.new.count (run_line l.number l.statement) (g.K.Sink.written c.args.out.now) (g.K.Sink.written c.run_loop.new.out) c.args.session.now)
     (c.run_loop.ensures.cut no)
+
+pub run_line-step_line-requires : goal.run_line-step_line-requires
+run_line-step_line-requires g t c = record {
+  going = c.requires.going;
+  built = step_built c.args.line.now c.in_default.not-For c.requires.built;
+  few = omega (arith, c.requires.few, c.if-count-eq-MAX_STATEMENTS.false);
+}

@@ -1,13 +1,16 @@
-use Rattle.std.proofs.Common.{◌≡◌, [], length, option_copied, sym, ap, ◌∙◌, arith, refl}
+use Rattle.std.proofs.Common.{◌≡◌, [], length, option_copied, sym, ap, subst, ◌∙◌, arith, refl}
 use Rattle.lg_shape.specs.Shapes.{size_of}
 use Rattle.lg_shape.specs.Views.{Layout}
 use Rattle.lg_xform.specs.Chains.{shape_of, layout_of}
+use Rattle.lg_xform.proofs.Picks.{all_places}
 use Rattle.lg_meaning.specs.Faults.{known_or}
 use Rattle.lg_meaning.specs.Views.{transpose_axes, transposed}
 use Rattle.lg_session.specs.Names.{view_of}
 use Rattle.lg_session.specs.Operations.{right_for}
-use Rattle.lg_session.proofs.AxesLemmas.{turned_kind}
+use Rattle.lg_session.specs.Worlds.{NoRepeat}
+use Rattle.lg_session.proofs.AxesLemmas.{axes_once, turned_kind}
 use Rattle.lg_session.proofs.HeldLemmas.{places_inside}
+use Rattle.lg_session.proofs.Onces.{once_turned, writable_before}
 use Rattle.lg_session.proofs.turning.transpose_view.Goals as goal
 
 pub returns : goal.returns
@@ -36,5 +39,8 @@ returns c =
         small = omega (arith, t.size, held.small);
         unsplit = t.unsplit held.unsplit;
         inside = places_inside new _ (held.full ∙ ap size_of (sym (t.root ∙ held.shape))) c.root-root.ensures.inside;
+        once = λ is. subst (λ (l : Layout). NoRepeat l.places) (sym t.layout)
+            (once_turned (layout_of view.chain) (all_places view.chain) (held.once (writable_before view.right c.right_of_view.result c.right_of_view.ensures is)) t.order
+            (axes_once count xs t.order t.written));
       };
     }

@@ -22,7 +22,7 @@ returns-in-Ok-clause-stands c = λ state stands.
     let view : View = record { root = c.in_ok-root.root; dtype = made.dtype; chain = made.chain; right = made.right } in
     let root = root_of c.args.fresh.tile in
     let w = c.whole_view-view.ensures.whole in
-    let whole : IsWholeOf view root = record { of_root = record { dtype = w.of_root.dtype; shape = w.of_root.shape; full = w.of_root.full; small = w.of_root.small; unsplit = w.of_root.unsplit; inside = w.of_root.inside }; shape = w.shape; places = w.places } in
+    let whole : IsWholeOf view root = record { of_root = record { dtype = w.of_root.dtype; shape = w.of_root.shape; full = w.of_root.full; small = w.of_root.small; unsplit = w.of_root.unsplit; inside = w.of_root.inside; once = w.of_root.once }; shape = w.shape; places = w.places } in
     let reached = reached_set c.args.self.now.names c.bind.new.self.names word view c.in-Ok.ensures.set in
     let now = c.in-Ok.ensures.kept word view reached ∙ c.in_ok-root.ensures.held in
     subst (λ (k : ArrayKind). Represents (contents c.bind.new.self.roots) (environment c.bind.new.self.names) (newly_bound word k (numbers c.args.fresh.tile) state))
