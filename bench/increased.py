@@ -1,0 +1,2 @@
+x = np.zeros(SIZE, np.int64)
+repeat: x += 1
