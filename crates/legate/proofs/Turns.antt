@@ -8,7 +8,7 @@ use Rattle.lg_meaning.specs.Memory.{State, weak as weak_bound}
 use Rattle.lg_meaning.specs.Weak.{integer}
 use Rattle.lg_meaning.specs.Step.{rebound}
 use Rattle.lg_meaning.specs.Run.{done, Progress, after, turn_from, turns, looped, run_lines, MAX_STATEMENTS}
-use Rattle.lg_session.specs.Operations.{IsRanged}
+use Rattle.lg_operations.specs.Operations.{IsRanged}
 use Rattle.lg_session.specs.Standing.{StandsFor}
 use Rattle.lg_session.specs.declared.session.Session.{Session}
 use Rattle.legate.specs.Running.{Goes, Halts, Cuts}

@@ -1,6 +1,6 @@
 -- The axes of a transpose are those of the shape in another order.
-use Rattle.std.proofs.Common.{◌≡◌, ◌==◌, eqb, eqb-true, ne_eqb, eq-eqb, not, ◌&&◌, ◌||◌, ℕ, zero, suc, ◌+◌, ◌-◌, ◌*◌, ◌<◌, ◌≤◌, Bool, true, false, List, [], ◌∷◌, ◌++◌, length, take, map, reverse, get_or, slice_get, Option, None, Some, Result, Ok, Err, ℤ, pos, negsuc, inl, inr, refl, sym, ap, subst, ◌∙◌, arith}
-use Rattle.std.specs.List.{range_with_len, list_all, list_any, IsDistinct, All, AllByRecursion}
+use Rattle.std.proofs.Common.{◌≡◌, ◌==◌, eqb, eqb-true, ne_eqb, eq-eqb, not, ◌&&◌, ◌||◌, ℕ, zero, suc, ◌+◌, ◌-◌, ◌*◌, ◌<◌, ◌≤◌, Bool, true, false, List, [], ◌∷◌, ◌++◌, length, take, map, reverse, get_or, slice_get, Option, None, Some, Result, Ok, ℤ, inl, inr, refl, sym, ap, subst, ◌∙◌, arith}
+use Rattle.std.specs.List.{range_with_len, list_all, list_any, IsDistinct, AllByRecursion}
 use Rattle.std.specs.List.Sorted.{IsPermutation}
 use Rattle.std.specs.Option.{unwrap_or}
 use Rattle.std.specs.Result.{result_ok}

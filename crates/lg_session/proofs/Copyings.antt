@@ -13,15 +13,15 @@ use Rattle.lg_meaning.specs.Faults.{from_part}
 use Rattle.lg_meaning.specs.Memory.{ArrayKind, writable}
 use Rattle.lg_meaning.specs.Static.{Static, array_value, as_array, made, shape_of, type_alone}
 use Rattle.lg_session.specs.Copying.{IsAnew}
-use Rattle.lg_session.specs.Names.{view_of}
-use Rattle.lg_session.specs.Operations.{IsArrayOf}
-use Rattle.lg_session.specs.Reshaping.{reshape_kind}
+use Rattle.lg_operations.specs.Views.{view_of}
+use Rattle.lg_operations.specs.Operations.{IsArrayOf}
+use Rattle.lg_operations.specs.Reshaping.{reshape_kind}
 use Rattle.lg_session.specs.Values.{value_static, value_in, IsUsable}
 use Rattle.lg_session.specs.Worlds.{Roots, number_at}
-use Rattle.lg_session.proofs.Made.{array_made, value_of_parts}
-use Rattle.lg_session.proofs.Statics.{kind_with, made_ok, needing_ok, the_kind}
+use Rattle.lg_operations.proofs.Made.{array_made, value_of_parts}
+use Rattle.lg_operations.proofs.Statics.{kind_with, made_ok, needing_ok, the_kind}
 use Rattle.lg_session.proofs.ViewedLemmas.{array_type, part_before}
-use Rattle.lg_session.specs.declared.operations.values.Fresh.{Fresh}
+use Rattle.lg_operations.specs.declared.values.Fresh.{Fresh}
 use Rattle.lg_session.specs.declared.value.Value.{Value}
 use Rattle.lg_session.specs.declared.value.Value.TheVariants.{Weak, Shown, Fresh as NewArray}
 

@@ -8,8 +8,8 @@ use Rattle.lg_meaning.specs.Static.{Static, integer_of, integers}
 use Rattle.lg_meaning.specs.Expressions.{static_of, shape_static, trees_static}
 use Rattle.lg_session.specs.Values.{IsOutcome, AreExtents}
 use Rattle.lg_session.specs.declared.session.Session.{Session}
-use Rattle.lg_session.specs.declared.operations.end.EvaluateEnd.{EvaluateEnd}
-use Rattle.lg_session.specs.declared.operations.end.EvaluateEnd.TheVariants.{Fault, NoMemory}
+use Rattle.lg_operations.specs.declared.end.EvaluateEnd.{EvaluateEnd}
+use Rattle.lg_operations.specs.declared.end.EvaluateEnd.TheVariants.{Fault, NoMemory}
 
 -- these, and what comes behind them
 abbrev pub behind : {A : Type 0} → List A → Result (List A) FaultKind → Result (List A) FaultKind

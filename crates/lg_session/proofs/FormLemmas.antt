@@ -1,5 +1,5 @@
 -- The value of each form from the values of its parts.
-use Rattle.std.proofs.Common.{◌≡◌, ℕ, Bool, true, false, List, [], ◌∷◌, ◌++◌, map, Option, None, Some, Result, Ok, Err, refl, sym, ap, ◌∙◌, option_map, pos, if◌then◌else◌}
+use Rattle.std.proofs.Common.{◌≡◌, ℕ, Bool, true, false, List, [], map, Option, None, Some, Result, Ok, Err, refl, sym, ap, ◌∙◌, option_map, pos, if◌then◌else◌}
 use Rattle.std.proofs.lemmas.Simd.{map-map}
 use Rattle.lg_elem.specs.declared.dtype.DType.{DType}
 use Rattle.lg_elem.specs.declared.dtype.DType.TheVariants.{Int64}
@@ -22,8 +22,9 @@ use Rattle.lg_meaning.specs.Sharing.{named_view, shared_view}
 use Rattle.lg_meaning.specs.Value as meaning
 use Rattle.lg_meaning.specs.Value.{valued, shown, only}
 use Rattle.lg_store.specs.declared.view.View.{View as CodeView}
-use Rattle.lg_session.specs.Operations.{weak_of}
-use Rattle.lg_session.specs.Names.{view_of, bound_of, bound_at, environment}
+use Rattle.lg_operations.specs.Operations.{weak_of}
+use Rattle.lg_operations.specs.Views.{view_of}
+use Rattle.lg_session.specs.Names.{bound_of, bound_at, environment}
 use Rattle.lg_session.specs.Roots.{contents}
 use Rattle.lg_session.specs.Standing.{StandsFor, roots_in, names_in}
 use Rattle.lg_session.specs.Values.{value_static, value_in, IsComputed, Means, IsOutcome, IsFirstBound}
@@ -31,8 +32,8 @@ use Rattle.lg_session.specs.Lists.{gathered, joined, Gathers}
 use Rattle.lg_session.proofs.Links.{named_there, named_shown, shown_alike}
 use Rattle.lg_session.specs.declared.lists.Members.{Members}
 use Rattle.lg_session.specs.declared.names.Bound.TheVariants.{Array}
-use Rattle.lg_session.specs.declared.operations.end.EvaluateEnd.{EvaluateEnd}
-use Rattle.lg_session.specs.declared.operations.end.EvaluateEnd.TheVariants.{Fault, NoMemory}
+use Rattle.lg_operations.specs.declared.end.EvaluateEnd.{EvaluateEnd}
+use Rattle.lg_operations.specs.declared.end.EvaluateEnd.TheVariants.{Fault, NoMemory}
 use Rattle.lg_session.specs.declared.session.Session.{Session}
 use Rattle.lg_session.specs.declared.value.Value.{Value}
 use Rattle.lg_session.specs.declared.value.Value.TheVariants.{Weak, Shown, Fresh}

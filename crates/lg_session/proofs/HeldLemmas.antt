@@ -22,9 +22,10 @@ use Rattle.lg_meaning.specs.Memory as memory
 use Rattle.lg_meaning.specs.Memory.{Root, View, numbers_of}
 use Rattle.lg_meaning.specs.Run.{start}
 use Rattle.lg_meaning.specs.Value.{plain}
-use Rattle.lg_session.specs.Operations.{value_with, kind_of, extents_of, right_for, IsWhole}
+use Rattle.lg_operations.specs.Operations.{value_with, kind_of, extents_of, right_for, IsWhole}
 use Rattle.lg_session.specs.Worlds.{Roots, Names, number_at, shown_in, SameBound}
-use Rattle.lg_session.specs.Names.{view_of, bound_at, viewed_root, IsReached}
+use Rattle.lg_operations.specs.Views.{view_of}
+use Rattle.lg_session.specs.Names.{bound_at, viewed_root, IsReached}
 use Rattle.lg_session.specs.Roots.{root_of}
 use Rattle.lg_session.specs.Stored.{IsViewOf, IsWholeOf, IsHeld, IsStored, AreHeld, AreRanged, IsTidyAt}
 use Rattle.lg_session.specs.Standing.{Represents, names_in}

@@ -20,15 +20,15 @@ use Rattle.lg_meaning.specs.Indices.{index_kind, index_form, index_fault_kind, i
 use Rattle.lg_meaning.specs.Value as meaning
 use Rattle.lg_meaning.specs.Value.{plain}
 use Rattle.lg_meaning.specs.Views.{picked, view_right}
-use Rattle.lg_session.specs.Operations.{right_for, fresh_kind, fresh_value, extents_of, IsArrayOf, IsMade}
+use Rattle.lg_operations.specs.Operations.{right_for, fresh_kind, fresh_value, extents_of, IsArrayOf, IsMade}
 use Rattle.lg_session.specs.Worlds.{Roots, shown_in}
-use Rattle.lg_session.specs.Names.{view_of}
+use Rattle.lg_operations.specs.Views.{view_of}
 use Rattle.lg_session.specs.Roots.{root_of}
 use Rattle.lg_session.specs.Stored.{IsViewOf, IsViewOfSome, IsHeld}
 use Rattle.lg_session.specs.Values.{value_static, value_in}
 use Rattle.lg_session.specs.Viewed.{IsViewMade}
-use Rattle.lg_session.specs.declared.operations.end.EvaluateEnd.{EvaluateEnd}
-use Rattle.lg_session.specs.declared.operations.values.Fresh.{Fresh}
+use Rattle.lg_operations.specs.declared.end.EvaluateEnd.{EvaluateEnd}
+use Rattle.lg_operations.specs.declared.values.Fresh.{Fresh}
 use Rattle.lg_session.specs.declared.value.Value.{Value}
 use Rattle.lg_session.proofs.HeldLemmas.{gathered_kind, gathered_value, gathered_whole}
 use Rattle.lg_session.proofs.Picked.{IsPicked, AreAmong, picked_numbers}

@@ -1,4 +1,3 @@
-mod WeakLemmas
 pub mod Links
 pub mod NameLemmas
 pub mod ReachLemmas
@@ -11,17 +10,6 @@ pub mod ExtentLemmas
 pub mod ListLemmas
 pub mod ShapeLemmas
 pub mod StepLemmas
-mod LimitLemmas
-mod Rows
-mod Tilings
-mod Pieces
-mod Fits
-mod Spreads
-mod Shapes
-mod Lendings
-mod Gatherings
-mod Indexed
-mod Windows
 pub mod ViewLemmas
 pub mod AxesLemmas
 pub mod Onces
@@ -32,12 +20,6 @@ pub mod IndexLemmas
 pub mod Turnings
 pub mod PartLemmas
 pub mod Viewings
-mod Joins
-mod Statics
-mod Reshapings
-mod Values
-mod Made
-mod Written
 mod Copyings
 pub mod LoopLemmas
 pub mod StatementLemmas
@@ -46,6 +28,5 @@ mod Storing
 mod RootLemmas
 pub mod Writes
 pub mod WriteHeld
-mod Fillings
 pub mod Targets
 pub mod WriteSteps

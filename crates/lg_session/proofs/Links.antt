@@ -1,5 +1,5 @@
 -- From two worlds of which one stands for the other to the two that follow.
-use Rattle.std.proofs.Common.{◌≡◌, ◌≢◌, ◌↔◌, ℕ, ◌+◌, ◌<◌, Bool, true, false, ◌⊎◌, inl, inr, ⊎_elim, List, length, map, get_or, Option, None, Some, option_map, refl, sym, ap, subst, ◌∙◌, ℤ, pos, arith, bytes_eq, if◌then◌else◌, slice_get}
+use Rattle.std.proofs.Common.{◌≡◌, ◌≢◌, ◌↔◌, ℕ, ◌<◌, Bool, true, false, ◌⊎◌, inl, inr, ⊎_elim, List, length, map, get_or, Option, None, Some, option_map, refl, sym, ap, subst, ◌∙◌, ℤ, pos, arith, bytes_eq, if◌then◌else◌, slice_get}
 use Rattle.std.specs.List.{range_with_len}
 use Rattle.std.proofs.lemmas.List.{same_lists, length-map}
 use Rattle.std.proofs.lemmas.List.FromFn.{length-range_with_len, get_or-range_with_len}

@@ -1,5 +1,5 @@
 -- What stands in nested lists, list after list.
-use Rattle.std.proofs.Common.{◌≡◌, ℕ, suc, ◌+◌, ◌-◌, ◌*◌, Bool, true, false, List, [], ◌∷◌, ◌++◌, length, map, Option, None, Some, Result, Ok, Err, IfSome, refl, sym, ap, ◌∙◌, option_map, append-nil, append_assoc, bytes_eq, if◌then◌else◌, arith, ℤ}
+use Rattle.std.proofs.Common.{◌≡◌, ℕ, suc, ◌+◌, ◌-◌, ◌*◌, Bool, true, false, List, [], ◌∷◌, ◌++◌, length, map, Option, None, Some, Result, Ok, Err, IfSome, refl, sym, ap, ◌∙◌, option_map, append-nil, append_assoc, bytes_eq, if◌then◌else◌, arith}
 use Rattle.std.specs.Cmp.Lexicographic.{bytes_decides}
 use Rattle.std.proofs.lemmas.List.{map-append}
 use Rattle.std.proofs.lemmas.Option.{same_Some}
@@ -14,13 +14,13 @@ use Rattle.lg_meaning.specs.Static.{Static, weak_value, weak_of, weaks}
 use Rattle.lg_meaning.specs.Creation.{list_shape, row_shape, same_shape, count_of}
 use Rattle.lg_meaning.specs.Expressions.{list_static, lists_static, list_numbers, lists_numbers}
 use Rattle.lg_meaning.specs.Value.{only}
-use Rattle.lg_session.specs.Operations.{weak_of as weak_in}
+use Rattle.lg_operations.specs.Operations.{weak_of as weak_in}
 use Rattle.lg_session.specs.Values.{value_static, Means}
 use Rattle.lg_session.specs.Lists.{leaves, all_leaves, gathered, joined, Gathers, IsGathered}
 use Rattle.lg_session.specs.ListShapes.{is_alike}
 use Rattle.lg_session.specs.declared.lists.Members.{Members}
-use Rattle.lg_session.specs.declared.operations.end.EvaluateEnd.{EvaluateEnd}
-use Rattle.lg_session.specs.declared.operations.end.EvaluateEnd.TheVariants.{Fault, NoMemory}
+use Rattle.lg_operations.specs.declared.end.EvaluateEnd.{EvaluateEnd}
+use Rattle.lg_operations.specs.declared.end.EvaluateEnd.TheVariants.{Fault, NoMemory}
 use Rattle.lg_session.specs.declared.session.Session.{Session}
 use Rattle.lg_session.specs.declared.value.Value.{Value}
 use Rattle.lg_session.specs.declared.value.Value.TheVariants as value

@@ -7,7 +7,7 @@ use Rattle.lg_meaning.specs.Faults.{from_both, from_part}
 use Rattle.lg_meaning.specs.Weak as weak
 use Rattle.lg_meaning.specs.Memory as memory
 use Rattle.lg_meaning.specs.Memory.{View, State, array}
-use Rattle.lg_meaning.specs.Static.{Static, integer_of}
+use Rattle.lg_meaning.specs.Static.{integer_of}
 use Rattle.lg_meaning.specs.Expressions.{maybe_static, static_of}
 use Rattle.lg_meaning.specs.Loops.{bounds_of, bounds_static}
 use Rattle.lg_meaning.specs.Step.{rebound as rebound_state}
@@ -18,9 +18,9 @@ use Rattle.lg_session.specs.Turns.{AreTurns}
 use Rattle.lg_session.specs.Values.{value_static, Means, IsFirstBound}
 use Rattle.lg_session.proofs.StepLemmas.{Keeps, represents_rebound}
 use Rattle.lg_session.specs.declared.names.Bound.TheVariants as code
-use Rattle.lg_session.specs.declared.operations.end.EvaluateEnd.{EvaluateEnd}
-use Rattle.lg_session.specs.declared.operations.end.EvaluateEnd.TheVariants.{Fault}
-use Rattle.lg_session.specs.declared.operations.values.Weak.TheVariants.{Integer}
+use Rattle.lg_operations.specs.declared.end.EvaluateEnd.{EvaluateEnd}
+use Rattle.lg_operations.specs.declared.end.EvaluateEnd.TheVariants.{Fault}
+use Rattle.lg_operations.specs.declared.values.Weak.TheVariants.{Integer}
 use Rattle.lg_session.specs.declared.session.Session.{Session}
 use Rattle.lg_session.specs.declared.value.Value.{Value}
 

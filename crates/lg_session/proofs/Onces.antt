@@ -21,7 +21,7 @@ use Rattle.lg_store.specs.declared.view.Right.{Right}
 use Rattle.lg_store.specs.declared.view.Right.TheVariants.{Writable, ReadOnly, Scalar}
 use Rattle.lg_meaning.specs.Memory.{writable, read_only}
 use Rattle.lg_meaning.specs.Views.{view_right, transposed}
-use Rattle.lg_session.specs.Operations.{right_for}
+use Rattle.lg_operations.specs.Operations.{right_for}
 use Rattle.lg_session.specs.Worlds.{NoRepeat}
 use Rattle.lg_session.proofs.AxesLemmas.{index_count}
 use Rattle.lg_session.proofs.ViewLemmas.{choices_in, items_sound, picked_indices}

@@ -14,8 +14,8 @@ use Rattle.lg_meaning.specs.Indices.{ItemStatic, index_item, index_items}
 use Rattle.lg_meaning.specs.Expressions.{optional_static, item_static, items_static}
 use Rattle.lg_session.specs.Parts.{item_list, is_typed_with, IsRead, IsPart, IsItemRead, IsItem, AreItemsRead, AreItems}
 use Rattle.lg_session.specs.Values.{value_static, Means, IsOutcome}
-use Rattle.lg_session.specs.declared.operations.end.EvaluateEnd.{EvaluateEnd}
-use Rattle.lg_session.specs.declared.operations.end.EvaluateEnd.TheVariants.{Fault, NoMemory}
+use Rattle.lg_operations.specs.declared.end.EvaluateEnd.{EvaluateEnd}
+use Rattle.lg_operations.specs.declared.end.EvaluateEnd.TheVariants.{Fault, NoMemory}
 use Rattle.lg_session.specs.declared.session.Session.{Session}
 use Rattle.lg_session.specs.declared.value.Value.{Value}
 use Rattle.lg_session.proofs.ExtentLemmas.{behind, behind_nothing, behind_all, behind_more}

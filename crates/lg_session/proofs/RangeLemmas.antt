@@ -1,5 +1,5 @@
 -- What arithmetic on weak numbers alone gives is in their range.
-use Rattle.std.proofs.Common.{◌≡◌, Bool, true, false, ◌&&◌, Some, Ok, Err, ◌∙◌, ℤ, ◌+ℤ◌, ◌-ℤ◌, ◌*ℤ◌, ◌≤ℤ◌, if◌then◌else◌, arith}
+use Rattle.std.proofs.Common.{◌≡◌, Bool, true, false, Some, Ok, Err, ℤ, ◌+ℤ◌, ◌-ℤ◌, ◌*ℤ◌, if◌then◌else◌, arith}
 use Rattle.std.proofs.lemmas.Option.{same_Some}
 use Rattle.std.proofs.lemmas.Grind.{common_steps}
 use Rattle.lg_elem.specs.Operations.{is_zero, floor_div}
@@ -7,7 +7,7 @@ use Rattle.lg_tree.specs.declared.kinds.Arith.{Arith}
 use Rattle.lg_tree.specs.declared.kinds.Arith.TheVariants.{Add, Sub, Mul, FloorDiv, Rem, Pow, BitAnd, BitOr, BitXor, Shl, Shr}
 use Rattle.lg_meaning.specs.declared.fault.FaultKind.TheVariants.{Divisor}
 use Rattle.lg_meaning.specs.Weak.{Weak, ranged, divided, weak_arith}
-use Rattle.lg_session.specs.Operations.{IsRanged}
+use Rattle.lg_operations.specs.Operations.{IsRanged}
 
 ranged_within : (x : ℤ) (w : Weak) → ranged x ≡ Ok w → IsRanged w
 ranged_within x w h = grind (arith, common_steps)

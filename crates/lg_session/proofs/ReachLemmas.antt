@@ -1,5 +1,5 @@
 -- Whether a name reaches a root, from the values of the map.
-use Rattle.std.proofs.Common.{◌≡◌, ◌↔◌, ℕ, suc, ◌==◌, Bool, true, ◌||◌, List, [], ◌∷◌, Some, slice_get, option_map, refl, sym, ap, ◌∙◌, ⊎_elim, Vec, eqb-true, eq-eqb}
+use Rattle.std.proofs.Common.{◌≡◌, ℕ, suc, Bool, true, ◌||◌, List, [], ◌∷◌, Some, slice_get, option_map, refl, sym, ap, ◌∙◌, ⊎_elim, Vec, eqb-true, eq-eqb}
 use Rattle.std.specs.List.{list_any}
 use Rattle.std.specs.Map.{values_of}
 use Rattle.std.specs.BTreeMap.{values, IsOrdered, is_at}

@@ -1,5 +1,5 @@
 -- The shape of nested lists, as the code finds it.
-use Rattle.std.proofs.Common.{◌≡◌, ℕ, suc, ◌+◌, ◌<◌, List, [], ◌∷◌, length, map, drop, drop-cons, get_or, None, Some, sym, ap, ◌∙◌, option_map, arith}
+use Rattle.std.proofs.Common.{◌≡◌, ℕ, suc, ◌+◌, ◌<◌, List, ◌∷◌, length, map, drop, drop-cons, get_or, None, Some, sym, ap, ◌∙◌, option_map, arith}
 use Rattle.std.proofs.lemmas.List.{length-map}
 use Rattle.lg_tree.specs.View.{list_of, list_trees}
 use Rattle.lg_tree.specs.declared.trees.ListExpr.{ListExpr, List as Listed}

@@ -1,5 +1,5 @@
 -- What a statement does to the session, from what binding and printing do.
-use Rattle.std.proofs.Common.{◌≡◌, ℕ, List, [], ◌∷◌, None, Some, Result, Ok, Err, Vec, refl, sym, ap, subst, ◌∙◌, bytes_eq, if◌then◌else◌}
+use Rattle.std.proofs.Common.{◌≡◌, ℕ, List, [], None, Some, Result, Ok, Err, Vec, refl, sym, ap, subst, ◌∙◌, bytes_eq, if◌then◌else◌}
 use Rattle.std.specs.declared.alloc.Global.{Global}
 use Rattle.lg_store.specs.declared.view.View.{View as CodeView}
 use Rattle.lg_tile.specs.Tiles.{numbers}
@@ -14,9 +14,10 @@ use Rattle.lg_meaning.specs.Expressions.{static_of}
 use Rattle.lg_meaning.specs.Value as meaning
 use Rattle.lg_meaning.specs.Text.{printed, printed_type}
 use Rattle.lg_meaning.specs.Step.{Stepped, step, bind_step, print_step, print_value, text_unless, rebound as rebound_state, newly_bound}
-use Rattle.lg_session.specs.Operations.{weak_of, fresh_kind}
+use Rattle.lg_operations.specs.Operations.{weak_of, fresh_kind}
 use Rattle.lg_session.specs.Worlds.{IsInside, AtOneIndex, Linked, Place}
-use Rattle.lg_session.specs.Names.{bound_at, view_of, environment}
+use Rattle.lg_session.specs.Names.{bound_at, environment}
+use Rattle.lg_operations.specs.Views.{view_of}
 use Rattle.lg_session.specs.Roots.{contents}
 use Rattle.lg_session.specs.Standing.{StandsFor, roots_in, names_in}
 use Rattle.lg_session.specs.Values.{value_static, value_in, Means, IsOutcome}
@@ -27,10 +28,10 @@ use Rattle.lg_session.proofs.BuiltLemmas.{line-Line}
 use Rattle.lg_session.proofs.Links.{BoundLinked}
 use Rattle.lg_session.proofs.StepLemmas.{Keeps, represents_rebound, bound_weak, bound_shown, bound_fresh}
 use Rattle.lg_session.specs.declared.names.Bound.TheVariants as code
-use Rattle.lg_session.specs.declared.operations.end.EvaluateEnd.{EvaluateEnd}
-use Rattle.lg_session.specs.declared.operations.end.EvaluateEnd.TheVariants.{Fault, NoMemory}
-use Rattle.lg_session.specs.declared.operations.values.Fresh.{Fresh as FreshArray}
-use Rattle.lg_session.specs.declared.operations.values.Weak.{Weak as CodeWeak}
+use Rattle.lg_operations.specs.declared.end.EvaluateEnd.{EvaluateEnd}
+use Rattle.lg_operations.specs.declared.end.EvaluateEnd.TheVariants.{Fault, NoMemory}
+use Rattle.lg_operations.specs.declared.values.Fresh.{Fresh as FreshArray}
+use Rattle.lg_operations.specs.declared.values.Weak.{Weak as CodeWeak}
 use Rattle.lg_session.specs.declared.session.Session.{Session}
 use Rattle.lg_session.specs.declared.value.Value.{Value}
 use Rattle.lg_session.specs.declared.value.Value.TheVariants.{Weak, Shown, Fresh}

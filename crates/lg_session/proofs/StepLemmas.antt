@@ -17,7 +17,8 @@ use Rattle.lg_meaning.specs.Expressions.{evaluated}
 use Rattle.lg_meaning.specs.Sharing.{shared_view}
 use Rattle.lg_meaning.specs.Step.{rebound as rebound_state, newly_bound, bound_as, bound_to}
 use Rattle.lg_session.specs.Worlds.{Roots, Names, Place, number_at, shown_in, put, SameBound, Linked, Stands, IsInside, AreInside, NoRepeat}
-use Rattle.lg_session.specs.Names.{view_of, bound_of, bound_at, environment}
+use Rattle.lg_operations.specs.Views.{view_of}
+use Rattle.lg_session.specs.Names.{bound_of, bound_at, environment}
 use Rattle.lg_session.specs.Stored.{IsViewOf, IsWholeOf, AreHeld}
 use Rattle.lg_session.specs.Standing.{Represents, roots_in, names_in}
 use Rattle.lg_session.proofs.Links.{number_kept, put_bound, put_linked, BoundLinked, rebound, freshly_bound, range_place, range_no_repeat, linked_there}

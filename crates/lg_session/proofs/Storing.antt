@@ -1,12 +1,12 @@
 -- What a tile that is written through a view does to a root's numbers.
-use Rattle.std.proofs.Common.{◌≡◌, ℕ, ◌<◌, ◌≤◌, ◌⊎◌, inl, inr, ⊎_elim, List, length, map, get_or, Option, None, Some, option_map, slice_get, refl, sym, ap, subst, ◌∙◌, arith, ℤ, pos, []}
+use Rattle.std.proofs.Common.{◌≡◌, ℕ, ◌<◌, ◌≤◌, inl, inr, List, length, get_or, Option, None, Some, option_map, slice_get, refl, sym, ap, subst, ◌∙◌, arith, ℤ, pos, []}
 use Rattle.std.specs.List.{range_with_len}
 use Rattle.std.proofs.lemmas.Bool.{cases_lt}
 use Rattle.std.proofs.lemmas.List.FromFn.{length-range_with_len, get_or-range_with_len}
-use Rattle.std.proofs.lemmas.Option.{slice_get-map, slice_get_within, slice_get_past, slice_get-get_or, unwrap_or-slice_get, same_Some}
+use Rattle.std.proofs.lemmas.Option.{slice_get-map, slice_get_past, slice_get-get_or, unwrap_or-slice_get, same_Some}
 use Rattle.std.specs.Option.{unwrap_or}
 use Rattle.lg_space.specs.Rectangle.{IsIn, indices, volume_of, place_in}
-use Rattle.lg_space.proofs.Places.{place-below, stands_at_place, stands_once, volume_counts}
+use Rattle.lg_space.proofs.Places.{stands_at_place, stands_once, volume_counts}
 use Rattle.lg_shape.specs.Shapes.{whole, places, place_of, size_of}
 use Rattle.lg_shape.specs.Views.{Layout, whole_layout}
 use Rattle.lg_tile.specs.declared.any_tile.AnyTile.{AnyTile}

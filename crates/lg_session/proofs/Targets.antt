@@ -1,5 +1,5 @@
 -- The part of an array that an index picks as a target.
-use Rattle.std.proofs.Common.{◌≡◌, ℕ, ◌<◌, List, length, map, Option, None, Some, Result, Ok, Err, slice_get, option_map, refl, sym, ap, subst, ◌∙◌, arith}
+use Rattle.std.proofs.Common.{◌≡◌, ℕ, List, map, Option, None, Some, Result, Err, option_map, refl, sym, ap, ◌∙◌, arith}
 use Rattle.lg_store.specs.declared.view.View.{View as CodeView}
 use Rattle.lg_shape.specs.Shapes.{place_of}
 use Rattle.lg_shape.specs.Views.{Layout, place_at}
@@ -17,15 +17,16 @@ use Rattle.lg_meaning.specs.Faults.{from_part, from_both}
 use Rattle.lg_meaning.specs.Indices.{index_items, index_form, index_fault_kind, unless_faulty}
 use Rattle.lg_meaning.specs.Memory.{ArrayKind, View, Bound, State}
 use Rattle.lg_meaning.specs.Views.{layout_in, view_by, view_kind, view_right}
-use Rattle.lg_session.specs.Names.{view_of, environment}
-use Rattle.lg_session.specs.Operations.{right_for}
+use Rattle.lg_operations.specs.Views.{view_of}
+use Rattle.lg_session.specs.Names.{environment}
+use Rattle.lg_operations.specs.Operations.{right_for}
 use Rattle.lg_session.specs.Parts.{AreItems, AreItemsRead}
 use Rattle.lg_session.specs.Standing.{roots_in, names_in}
 use Rattle.lg_session.specs.Writing.{ShowsTarget, IsTarget}
 use Rattle.lg_session.proofs.Picked.{IsPicked, AreAmong, picked_shown, inside_picked}
 use Rattle.lg_session.proofs.ViewLemmas.{index_among, picked_indices}
-use Rattle.lg_session.specs.declared.operations.end.EvaluateEnd.{EvaluateEnd}
-use Rattle.lg_session.specs.declared.operations.end.EvaluateEnd.TheVariants.{Fault, NoMemory}
+use Rattle.lg_operations.specs.declared.end.EvaluateEnd.{EvaluateEnd}
+use Rattle.lg_operations.specs.declared.end.EvaluateEnd.TheVariants.{Fault, NoMemory}
 use Rattle.lg_session.specs.declared.session.Session.{Session}
 
 -- ---- a target's faults

@@ -13,7 +13,7 @@ use Rattle.lg_tree.specs.declared.trees.Statement.{Bind, Update, Put, UpdateAt, 
 use Rattle.lg_tree.specs.declared.trees.Statement as statement
 use Rattle.lg_meaning.specs.Memory.{State}
 use Rattle.lg_session.specs.Values.{Means, IsOutcome}
-use Rattle.lg_session.specs.declared.operations.end.EvaluateEnd.{EvaluateEnd}
+use Rattle.lg_operations.specs.declared.end.EvaluateEnd.{EvaluateEnd}
 use Rattle.lg_session.specs.declared.session.Session.{Session}
 use Rattle.lg_session.specs.declared.value.Value.{Value}
 

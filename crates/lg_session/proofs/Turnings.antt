@@ -1,8 +1,7 @@
 -- The value of a transpose.
-use Rattle.std.proofs.Common.{◌≡◌, ℕ, ◌<◌, false, List, [], length, take, map, Option, None, Some, option_map, option_and_then, slice_get, Result, Ok, Err, Vec, ℤ, refl, sym, ap, subst, ◌∙◌, arith}
+use Rattle.std.proofs.Common.{◌≡◌, ℕ, ◌<◌, false, List, [], length, take, map, Option, None, Some, option_map, option_and_then, slice_get, Result, Ok, refl, sym, ap, subst, ◌∙◌, arith}
 use Rattle.std.specs.List.{range_with_len}
 use Rattle.std.specs.List.Sorted.{IsPermutation}
-use Rattle.std.specs.declared.alloc.Global.{Global}
 use Rattle.std.proofs.lemmas.List.{take_all}
 use Rattle.std.proofs.lemmas.Simd.{map-map}
 use Rattle.std.proofs.lemmas.List.FromFn.{length-range_with_len}
@@ -24,13 +23,11 @@ use Rattle.lg_meaning.specs.Value as meaning
 use Rattle.lg_meaning.specs.Value.{valued}
 use Rattle.lg_meaning.specs.Views.{transpose_axes, transpose_kind, transpose_static, transposed, optional_integers, picked, view_kind}
 use Rattle.lg_session.specs.Names.{environment}
-use Rattle.lg_session.specs.Parts.{axes_static}
 use Rattle.lg_session.specs.Roots.{contents}
 use Rattle.lg_session.specs.Values.{value_static, value_in, ComesFrom, Means, IsOutcome}
 use Rattle.lg_session.specs.Viewed.{Form, Copies, IsViewed, picked_by}
-use Rattle.lg_session.specs.Worlds.{Roots, Names}
-use Rattle.lg_session.specs.declared.operations.end.EvaluateEnd.{EvaluateEnd}
-use Rattle.lg_session.specs.declared.operations.end.EvaluateEnd.TheVariants.{Fault, NoMemory}
+use Rattle.lg_session.specs.Worlds.{Roots}
+use Rattle.lg_operations.specs.declared.end.EvaluateEnd.{EvaluateEnd}
 use Rattle.lg_session.specs.declared.session.Session.{Session}
 use Rattle.lg_session.specs.declared.value.Value.{Value}
 use Rattle.lg_session.specs.declared.value.Value.TheVariants.{Weak, Shown, Fresh}

@@ -15,15 +15,16 @@ use Rattle.lg_meaning.specs.Sharing.{shared_view, formed}
 use Rattle.lg_meaning.specs.Value.{valued, plain}
 use Rattle.lg_meaning.specs.Views.{layout_in, view_by}
 use Rattle.lg_session.specs.Worlds.{Roots, Names as Bindings, shown_in}
-use Rattle.lg_session.specs.Names.{view_of, environment}
+use Rattle.lg_operations.specs.Views.{view_of}
+use Rattle.lg_session.specs.Names.{environment}
 use Rattle.lg_session.specs.Roots.{contents}
 use Rattle.lg_session.specs.Standing.{roots_in, names_in}
-use Rattle.lg_session.specs.Operations.{fresh_kind, weak_of}
+use Rattle.lg_operations.specs.Operations.{fresh_kind, weak_of}
 use Rattle.lg_session.specs.Values.{value_static, value_in, ComesFrom, IsShared, Means, IsOutcome}
 use Rattle.lg_session.specs.Viewed.{Form, Copies, IsViewed, IsViewMade, MakesView, MayCopy, picked_by}
 use Rattle.lg_session.proofs.Picked.{IsPicked, AreAmong, picked_shown, picked_numbers, inside_picked}
-use Rattle.lg_session.specs.declared.operations.end.EvaluateEnd.{EvaluateEnd}
-use Rattle.lg_session.specs.declared.operations.end.EvaluateEnd.TheVariants.{Fault, NoMemory}
+use Rattle.lg_operations.specs.declared.end.EvaluateEnd.{EvaluateEnd}
+use Rattle.lg_operations.specs.declared.end.EvaluateEnd.TheVariants.{Fault, NoMemory}
 use Rattle.lg_session.specs.declared.session.Session.{Session}
 use Rattle.lg_session.specs.declared.value.Value.{Value}
 use Rattle.lg_session.specs.declared.value.Value.TheVariants.{Weak, Shown, Fresh}

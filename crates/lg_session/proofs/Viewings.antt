@@ -14,8 +14,8 @@ use Rattle.lg_session.specs.Parts.{AreItemsRead, AreItems}
 use Rattle.lg_session.specs.Roots.{contents}
 use Rattle.lg_session.specs.Values.{value_static, Means, IsOutcome}
 use Rattle.lg_session.specs.Viewed.{IsViewed}
-use Rattle.lg_session.specs.declared.operations.end.EvaluateEnd.{EvaluateEnd}
-use Rattle.lg_session.specs.declared.operations.end.EvaluateEnd.TheVariants.{Fault, NoMemory}
+use Rattle.lg_operations.specs.declared.end.EvaluateEnd.{EvaluateEnd}
+use Rattle.lg_operations.specs.declared.end.EvaluateEnd.TheVariants.{Fault, NoMemory}
 use Rattle.lg_session.specs.declared.session.Session.{Session}
 use Rattle.lg_session.specs.declared.value.Value.{Value}
 use Rattle.lg_session.proofs.IndexLemmas.{index_rule, index_type, index_value_picks}

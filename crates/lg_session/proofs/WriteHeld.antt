@@ -1,5 +1,5 @@
 -- What the session keeps, and what it stands for, after a write.
-use Rattle.std.proofs.Common.{◌≡◌, ℕ, ◌==◌, eqb-true, ◌<◌, ⊎_elim, List, length, map, Option, None, Some, IsSomeAnd, refl, sym, ap, subst, ◌∙◌, arith, ℤ}
+use Rattle.std.proofs.Common.{◌≡◌, ℕ, ◌==◌, eqb-true, ⊎_elim, List, length, map, Option, None, Some, IsSomeAnd, refl, sym, ap, subst, ◌∙◌, arith, ℤ}
 use Rattle.std.proofs.lemmas.Bool.{cases_Bool}
 use Rattle.std.proofs.lemmas.List.{length-map}
 use Rattle.lg_elem.specs.Types.{wrap}
@@ -15,9 +15,10 @@ use Rattle.lg_xform.specs.Chains.{shape_of, layout_of}
 use Rattle.lg_xform.proofs.Picks.{all_places}
 use Rattle.lg_meaning.specs.Memory.{Root, View, ArrayKind, State, writable}
 use Rattle.lg_meaning.specs.Assignments.{written as written_memory}
-use Rattle.lg_session.specs.Operations.{right_for}
+use Rattle.lg_operations.specs.Operations.{right_for}
 use Rattle.lg_session.specs.Worlds.{Roots, IsShown, IsInside, NoRepeat}
-use Rattle.lg_session.specs.Names.{view_of, environment}
+use Rattle.lg_operations.specs.Views.{view_of}
+use Rattle.lg_session.specs.Names.{environment}
 use Rattle.lg_session.specs.Puts.{Writes}
 use Rattle.lg_session.specs.Stored.{IsViewOf, IsHeld, AreHeld, IsTidyAt}
 use Rattle.lg_session.specs.Standing.{Represents, roots_in, names_in}

@@ -1,6 +1,5 @@
 -- What the statements that write do to the session.
-use Rattle.std.proofs.Common.{◌≡◌, ◌≢◌, ◌⊎◌, inl, inr, ℕ, Bool, true, false, List, [], map, option_map, Option, None, Some, Result, Ok, Err, refl, sym, ap, subst, ◌∙◌, bytes_eq, ℤ, Vec}
-use Rattle.std.specs.declared.alloc.Global.{Global}
+use Rattle.std.proofs.Common.{◌≡◌, ◌≢◌, ◌⊎◌, inl, inr, ℕ, Bool, true, false, List, [], map, option_map, Option, None, Some, Result, Ok, Err, refl, sym, ap, subst, ◌∙◌, bytes_eq, ℤ}
 use Rattle.std.specs.Cmp.Lexicographic.{bytes_decides}
 use Rattle.std.specs.FinMap.{get}
 use Rattle.lg_elem.specs.Types.{wrap}
@@ -14,10 +13,10 @@ use Rattle.lg_tile.specs.Tiles.{numbers}
 use Rattle.lg_tile.proofs.NumberLemmas.{numbers_full}
 use Rattle.lg_xform.specs.Chains.{shape_of}
 use Rattle.lg_tree.specs.declared.kinds.Arith.{Arith}
-use Rattle.lg_tree.specs.Tree.{Tree, name, arith, bind, ItemTrees, StatementTree, put, update, update_at}
+use Rattle.lg_tree.specs.Tree.{Tree, name, arith, ItemTrees, StatementTree, put, update, update_at}
 use Rattle.lg_meaning.specs.declared.fault.FaultKind.{FaultKind}
 use Rattle.lg_meaning.specs.declared.fault.FaultKind.TheVariants.{Range, Shape, ReadOnly, TypeKind}
-use Rattle.lg_meaning.specs.Assignments.{Write, is_writable, is_taken, fills, without_surplus, target_of, put_target, put_write, update_kind, update_write, updated, write_of}
+use Rattle.lg_meaning.specs.Assignments.{Write, is_writable, is_taken, fills, without_surplus, target_of, put_target, put_write, update_write, updated, write_of}
 use Rattle.lg_meaning.specs.Expressions.{static_of, evaluated, items_of}
 use Rattle.lg_meaning.specs.Faults.{from_part, from_both, needing}
 use Rattle.lg_meaning.specs.Memory as memory
@@ -25,27 +24,28 @@ use Rattle.lg_meaning.specs.Memory.{Right, ArrayKind, View, Bound, State, viewed
 use Rattle.lg_meaning.specs.Operators.{arith_static, binary_static, binary_value, operation}
 use Rattle.lg_meaning.specs.Static.{Static, array_value, as_array}
 use Rattle.lg_meaning.specs.Static as static
-use Rattle.lg_meaning.specs.Step.{Stepped, step, write_step, put_answer, update_answer, update_step, update_by_right, bind_step}
+use Rattle.lg_meaning.specs.Step.{step, write_step, put_answer, update_answer, update_step, update_by_right, bind_step}
 use Rattle.lg_meaning.specs.Value as meaning
 use Rattle.lg_meaning.specs.Value.{plain}
-use Rattle.lg_session.specs.Names.{bound_at, bound_of, view_of, environment}
-use Rattle.lg_session.specs.Operations.{fresh_kind, fresh_value, operand_static, operand_value, right_for, weak_of, IsArrayOf, IsMade}
+use Rattle.lg_session.specs.Names.{bound_at, bound_of, environment}
+use Rattle.lg_operations.specs.Views.{view_of}
+use Rattle.lg_operations.specs.Operations.{fresh_kind, fresh_value, operand_static, operand_value, right_for, weak_of, IsArrayOf, IsMade}
 use Rattle.lg_session.specs.Roots.{contents}
-use Rattle.lg_session.specs.Session.{Leaves, IsDone, IsBound, Executes, IsExecuted}
+use Rattle.lg_session.specs.Session.{Leaves, IsDone, IsBound, Executes}
 use Rattle.lg_session.specs.Standing.{StandsFor, roots_in, names_in}
 use Rattle.lg_session.specs.Values.{value_static, value_in, Means, IsOutcome}
 use Rattle.lg_session.specs.Worlds.{SameBound, IsShown, shown_in}
-use Rattle.lg_session.specs.Writing.{taking, taken_numbers, put_rule, update_rule, HasTaken, IsTakenBy, ShowsTarget, IsTarget}
-use Rattle.lg_session.proofs.Fillings.{fills_self, self_broadcast}
+use Rattle.lg_operations.specs.Taking.{taking, put_rule, update_rule, HasTaken, IsTakenBy}
+use Rattle.lg_session.specs.Writing.{ShowsTarget, IsTarget}
+use Rattle.lg_operations.proofs.Fillings.{fills_self, self_broadcast}
 use Rattle.lg_session.proofs.Links.{named_there, named_shown, shown_alike}
-use Rattle.lg_session.proofs.FormLemmas.{named_means}
 use Rattle.lg_session.specs.declared.names.Bound.{Bound as CodeBound}
 use Rattle.lg_session.specs.declared.names.Bound.TheVariants as code
-use Rattle.lg_session.specs.declared.operations.values.Weak.{Weak as CodeWeak}
-use Rattle.lg_session.specs.declared.operations.end.EvaluateEnd.{EvaluateEnd}
-use Rattle.lg_session.specs.declared.operations.end.EvaluateEnd.TheVariants.{Fault, NoMemory}
-use Rattle.lg_session.specs.declared.operations.values.Fresh.{Fresh}
-use Rattle.lg_session.specs.declared.operations.values.Operand.{Operand}
+use Rattle.lg_operations.specs.declared.values.Weak.{Weak as CodeWeak}
+use Rattle.lg_operations.specs.declared.end.EvaluateEnd.{EvaluateEnd}
+use Rattle.lg_operations.specs.declared.end.EvaluateEnd.TheVariants.{Fault, NoMemory}
+use Rattle.lg_operations.specs.declared.values.Fresh.{Fresh}
+use Rattle.lg_operations.specs.declared.values.Operand.{Operand}
 use Rattle.lg_session.specs.declared.session.Session.{Session}
 use Rattle.lg_session.specs.declared.value.Value.{Value}
 

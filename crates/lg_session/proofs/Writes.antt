@@ -1,14 +1,13 @@
 -- Writes of the same values through two views that show one another.
-use Rattle.std.proofs.Common.{◌≡◌, ◌≢◌, ℕ, suc, zero, ◌==◌, eqb-true, eq-eqb, Bool, true, false, ◌<◌, ◌⊎◌, inl, inr, ⊎_elim, List, [], ◌∷◌, length, map, get_or, set, Option, None, Some, slice_get, refl, sym, ap, subst, ◌∙◌, arith, ℤ, pos}
-use Rattle.std.specs.Prelude.{slice_set}
+use Rattle.std.proofs.Common.{◌≡◌, ◌≢◌, ℕ, suc, zero, ◌==◌, eqb-true, ◌<◌, ◌⊎◌, inl, inr, ⊎_elim, List, [], ◌∷◌, length, map, get_or, set, Option, Some, slice_get, refl, sym, ap, ◌∙◌, arith, ℤ, pos}
 use Rattle.std.proofs.lemmas.Bool.{cases_Bool}
 use Rattle.std.proofs.lemmas.List.{length-set, get_or-set_same, get_or-set_other, length-map}
-use Rattle.std.proofs.lemmas.Option.{slice_get_within, slice_get-get_or, slice_get_past, get_or_from_slice_get, same_Some}
+use Rattle.std.proofs.lemmas.Option.{slice_get_within, slice_get-get_or, same_Some}
 use Rattle.lg_elem.specs.Types.{wrap}
 use Rattle.lg_meaning.specs.Memory.{Root, View, Memory, numbers_of}
 use Rattle.lg_meaning.specs.Assignments.{put_all, root_written, memory_written, written as written_memory}
-use Rattle.lg_session.specs.Worlds.{Roots, Names, Place, number_at, AtOneIndex, Linked, Stands, IsShown, IsInside, AreInside, NoRepeat}
-use Rattle.lg_session.specs.Puts.{Puts, Writes}
+use Rattle.lg_session.specs.Worlds.{Roots, Names, Place, number_at, Linked, Stands, IsShown, IsInside, NoRepeat}
+use Rattle.lg_session.specs.Puts.{Writes}
 use Rattle.lg_session.proofs.HeldLemmas.{unequal}
 
 -- ---- places that are among some

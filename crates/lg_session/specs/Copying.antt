@@ -4,12 +4,12 @@ use Rattle.lg_shape.specs.Shapes.{whole}
 use Rattle.lg_tile.specs.Tiles.{dtype_of, numbers, rect_of}
 use Rattle.lg_meaning.specs.Memory.{writable}
 use Rattle.lg_meaning.specs.Static.{as_array, type_alone}
-use Rattle.lg_session.specs.Operations.{right_for}
+use Rattle.lg_operations.specs.Operations.{right_for}
 use Rattle.lg_session.specs.Values.{value_static, value_in}
 use Rattle.lg_session.specs.Worlds.{Roots}
-use Rattle.lg_session.specs.declared.operations.end.EvaluateEnd.{EvaluateEnd}
-use Rattle.lg_session.specs.declared.operations.end.EvaluateEnd.TheVariants.{Fault, NoMemory}
-use Rattle.lg_session.specs.declared.operations.values.Fresh.{Fresh}
+use Rattle.lg_operations.specs.declared.end.EvaluateEnd.{EvaluateEnd}
+use Rattle.lg_operations.specs.declared.end.EvaluateEnd.TheVariants.{Fault, NoMemory}
+use Rattle.lg_operations.specs.declared.values.Fresh.{Fresh}
 use Rattle.lg_session.specs.declared.value.Value.{Value}
 
 -- the array has the value's type, numbers and fault

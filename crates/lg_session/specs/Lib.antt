@@ -1,4 +1,3 @@
-pub mod Operations
 pub mod Worlds
 pub mod Names
 pub mod Roots
@@ -9,11 +8,6 @@ pub mod Lists
 pub mod ListShapes
 pub mod Texts
 pub mod Session
-pub mod Ruling
-pub mod Cutting
-pub mod Lending
-pub mod Gathering
-pub mod Pieces
 pub mod Parts
 pub mod Viewed
 pub mod Turned
@@ -21,8 +15,6 @@ pub mod Forms
 pub mod Ends
 pub mod Turns
 pub mod Built
-pub mod Repeating
-pub mod Reshaping
 pub mod Copying
 pub mod Puts
 pub mod Writing

@@ -1,5 +1,5 @@
 -- The weak numbers in a list.
-use Rattle.std.specs.Prelude.{◌≡◌, ℕ, ◌+◌, Bool, List, ◌++◌, map, Result, Ok, Err, if◌then◌else◌, ℤ}
+use Rattle.std.specs.Prelude.{◌≡◌, ℕ, ◌+◌, List, ◌++◌, map, Result, Ok, Err, if◌then◌else◌}
 use Rattle.lg_tree.specs.Tree.{ListTree, leaf, list, ListTrees, no_lists, more_lists}
 use Rattle.lg_meaning.specs.declared.fault.FaultKind.{FaultKind}
 use Rattle.lg_meaning.specs.declared.fault.FaultKind.TheVariants.{TypeKind}
@@ -8,10 +8,10 @@ use Rattle.lg_meaning.specs.Memory.{State}
 use Rattle.lg_meaning.specs.Weak.{Weak, number_of}
 use Rattle.lg_meaning.specs.Static.{Static, weaks}
 use Rattle.lg_meaning.specs.Expressions.{list_static, list_numbers}
-use Rattle.lg_session.specs.Operations.{weak_of}
+use Rattle.lg_operations.specs.Operations.{weak_of}
 use Rattle.lg_session.specs.declared.lists.Members.{Members}
-use Rattle.lg_session.specs.declared.operations.end.EvaluateEnd.{EvaluateEnd}
-use Rattle.lg_session.specs.declared.operations.end.EvaluateEnd.TheVariants.{Fault, NoMemory}
+use Rattle.lg_operations.specs.declared.end.EvaluateEnd.{EvaluateEnd}
+use Rattle.lg_operations.specs.declared.end.EvaluateEnd.TheVariants.{Fault, NoMemory}
 
 -- how many expressions stand in nested lists
 abbrev mutual

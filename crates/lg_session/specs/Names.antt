@@ -5,25 +5,13 @@ use Rattle.std.specs.Ordering.{nat_cmp}
 use Rattle.std.specs.Cmp.Lexicographic.{slice_cmp}
 use Rattle.std.specs.declared.alloc.Global.{Global}
 use Rattle.lg_store.specs.declared.view.View.{View as CodeView}
-use Rattle.lg_xform.specs.Chains.{layout_of}
 use Rattle.lg_meaning.specs.Memory as memory
-use Rattle.lg_meaning.specs.Memory.{View, Bound, weak}
-use Rattle.lg_session.specs.Operations.{weak_of, right_for}
+use Rattle.lg_meaning.specs.Memory.{Bound, weak}
+use Rattle.lg_operations.specs.Operations.{weak_of}
+use Rattle.lg_operations.specs.Views.{view_of}
 use Rattle.lg_session.specs.declared.names.Bound.{Bound as CodeBound}
 use Rattle.lg_session.specs.declared.names.Bound.TheVariants.{Weak, Array}
 use Rattle.lg_session.specs.declared.names.Names.{Names}
-
--- the places of a view are those of its chain
-abbrev pub view_of : CodeView → View
-view_of view = record {
-  root = view.root;
-  kind = record {
-    dtype = view.dtype;
-    shape = (layout_of view.chain).shape;
-    right = right_for view.right;
-  };
-  places = (layout_of view.chain).places;
-}
 
 abbrev pub bound_of : CodeBound → Bound
 bound_of (Weak w) = weak (weak_of w)

@@ -4,7 +4,6 @@ use Rattle.std.specs.Prelude.{◌≡◌, Bool, false, List, [], ◌∷◌, map, 
 use Rattle.std.specs.declared.alloc.Global.{Global}
 use Rattle.lg_shape.specs.declared.index.IndexItem.{IndexItem}
 use Rattle.lg_tree.specs.Tree.{MaybeTree, MaybeShape, ItemTree, ItemTrees}
-use Rattle.lg_meaning.specs.declared.fault.FaultKind.{FaultKind}
 use Rattle.lg_meaning.specs.declared.fault.FaultKind.TheVariants.{TypeKind}
 use Rattle.lg_meaning.specs.Faults.{or_fault}
 use Rattle.lg_meaning.specs.Memory.{State}
@@ -12,8 +11,8 @@ use Rattle.lg_meaning.specs.Static.{Static, optional_integer}
 use Rattle.lg_meaning.specs.Indices.{ItemStatic, index_item, index_items}
 use Rattle.lg_meaning.specs.Expressions.{optional_static, optional_shape_static, item_static, items_static}
 use Rattle.lg_session.specs.Values.{value_static}
-use Rattle.lg_session.specs.declared.operations.end.EvaluateEnd.{EvaluateEnd}
-use Rattle.lg_session.specs.declared.operations.end.EvaluateEnd.TheVariants.{Fault, NoMemory}
+use Rattle.lg_operations.specs.declared.end.EvaluateEnd.{EvaluateEnd}
+use Rattle.lg_operations.specs.declared.end.EvaluateEnd.TheVariants.{Fault, NoMemory}
 use Rattle.lg_session.specs.declared.value.Value.{Value}
 
 -- the part has no static fault, and is this number or is left out

@@ -3,7 +3,7 @@ use Rattle.std.specs.Prelude.{ℕ, Option, None, option_map, unwrap_or, slice_ge
 use Rattle.lg_meaning.specs.Memory.{Root}
 use Rattle.lg_tile.specs.declared.any_tile.AnyTile.{AnyTile}
 use Rattle.lg_tile.specs.Tiles.{dtype_of, numbers}
-use Rattle.lg_session.specs.Operations.{extents_of}
+use Rattle.lg_operations.specs.Operations.{extents_of}
 use Rattle.lg_session.specs.declared.roots.Roots.{Roots}
 use Rattle.lg_session.specs.declared.roots.WholeTile.{WholeTile}
 

@@ -7,13 +7,13 @@ use Rattle.lg_space.specs.Stored.{MAX_VOLUME}
 use Rattle.lg_xform.specs.Chains.{layout_of, shape_of, root_of, inner_of, IsUnsplit}
 use Rattle.lg_shape.specs.Shapes.{size_of}
 use Rattle.lg_meaning.specs.Memory.{Root}
-use Rattle.lg_session.specs.Operations.{weak_of, IsRanged}
+use Rattle.lg_operations.specs.Operations.{weak_of, IsRanged}
 use Rattle.lg_session.specs.Worlds.{Roots, NoRepeat}
 use Rattle.lg_session.specs.Names.{bound_at, IsReached}
 use Rattle.lg_session.specs.declared.names.Bound.{Bound}
 use Rattle.lg_session.specs.declared.names.Bound.TheVariants.{Weak, Array}
 use Rattle.lg_session.specs.declared.names.Names.{Names}
-use Rattle.lg_session.specs.declared.operations.values.Weak.{Weak as CodeWeak}
+use Rattle.lg_operations.specs.declared.values.Weak.{Weak as CodeWeak}
 
 -- the root has the view's type, and the view's chain leads into it: each of its places is one of
 -- the root. No axis of it was split, so that indices can pick among its elements, and it has no

@@ -7,15 +7,15 @@ use Rattle.lg_xform.specs.declared.chain.Chain.{Chain}
 use Rattle.lg_xform.specs.Chains.{root_of, shape_of, inner_of, layout_of, IsUnsplit}
 use Rattle.lg_meaning.specs.declared.fault.FaultKind.{FaultKind}
 use Rattle.lg_meaning.specs.Faults.{from_part, known_or}
-use Rattle.lg_meaning.specs.Memory.{Root, ArrayKind}
+use Rattle.lg_meaning.specs.Memory.{Root}
 use Rattle.lg_meaning.specs.Static.{Static, as_array, array_result}
 use Rattle.lg_meaning.specs.Views.{transpose_axes, transpose_kind, transposed, optional_integers}
-use Rattle.lg_session.specs.Names.{view_of}
+use Rattle.lg_operations.specs.Views.{view_of}
 use Rattle.lg_session.specs.Parts.{axes_static}
 use Rattle.lg_session.specs.Stored.{IsViewOf}
 use Rattle.lg_session.specs.Viewed.{Form, IsViewMade}
-use Rattle.lg_session.specs.declared.operations.end.EvaluateEnd.{EvaluateEnd}
-use Rattle.lg_session.specs.declared.operations.end.EvaluateEnd.TheVariants.{Fault, NoMemory}
+use Rattle.lg_operations.specs.declared.end.EvaluateEnd.{EvaluateEnd}
+use Rattle.lg_operations.specs.declared.end.EvaluateEnd.TheVariants.{Fault, NoMemory}
 use Rattle.lg_session.specs.declared.value.Value.{Value}
 
 -- the axes as numbers, or the fault that one of them is none

@@ -2,10 +2,10 @@
 use Rattle.std.specs.Prelude.{◌≡◌, ℕ, Result, Ok, Err, ⊤, ℤ}
 use Rattle.lg_meaning.specs.declared.fault.FaultKind.{FaultKind}
 use Rattle.lg_meaning.specs.Weak.{integer}
-use Rattle.lg_session.specs.Operations.{IsRanged}
+use Rattle.lg_operations.specs.Operations.{IsRanged}
 use Rattle.lg_session.specs.declared.loops.Turns.{Turns}
-use Rattle.lg_session.specs.declared.operations.end.EvaluateEnd.{EvaluateEnd}
-use Rattle.lg_session.specs.declared.operations.end.EvaluateEnd.TheVariants.{Fault, NoMemory}
+use Rattle.lg_operations.specs.declared.end.EvaluateEnd.{EvaluateEnd}
+use Rattle.lg_operations.specs.declared.end.EvaluateEnd.TheVariants.{Fault, NoMemory}
 use Rattle.lg_session.specs.declared.session.StopEnd.{StopEnd}
 use Rattle.lg_session.specs.declared.session.StopEnd.TheVariants.{Fault as FaultAt, NoMemory as NoRoom}
 

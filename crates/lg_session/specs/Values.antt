@@ -1,7 +1,6 @@
 -- What the evaluation of an expression answers.
 use Rattle.std.specs.Prelude.{◌≡◌, List, [], ◌∷◌, map, None, Some, Result, Ok, Err, ⊤, ℤ, pos, Vec}
 use Rattle.std.specs.declared.alloc.Global.{Global}
-use Rattle.lg_store.specs.declared.view.View.{View as CodeView}
 use Rattle.lg_tree.specs.Tree.{Tree, MaybeTree, no_tree, some_tree, ShapeTree}
 use Rattle.lg_meaning.specs.declared.fault.FaultKind.{FaultKind}
 use Rattle.lg_meaning.specs.Weak as meaning_weak
@@ -12,16 +11,17 @@ use Rattle.lg_meaning.specs.Expressions.{static_of, shape_static, evaluated}
 use Rattle.lg_meaning.specs.Sharing.{shared_view}
 use Rattle.lg_meaning.specs.Value as meaning
 use Rattle.lg_meaning.specs.Value.{plain}
-use Rattle.lg_session.specs.Operations.{weak_of, fresh_kind, fresh_value, IsRanged, IsWhole, IsArrayOf}
+use Rattle.lg_operations.specs.Operations.{weak_of, fresh_kind, fresh_value, IsRanged, IsWhole, IsArrayOf}
 use Rattle.lg_session.specs.Worlds.{Roots, Names, shown_in, IsShown, IsInside}
-use Rattle.lg_session.specs.Names.{view_of, environment}
+use Rattle.lg_operations.specs.Views.{view_of}
+use Rattle.lg_session.specs.Names.{environment}
 use Rattle.lg_session.specs.Roots.{contents}
 use Rattle.lg_session.specs.Stored.{IsHeld}
 use Rattle.lg_session.specs.Standing.{roots_in, names_in}
-use Rattle.lg_session.specs.declared.operations.end.EvaluateEnd.{EvaluateEnd}
-use Rattle.lg_session.specs.declared.operations.end.EvaluateEnd.TheVariants.{Fault, NoMemory}
-use Rattle.lg_session.specs.declared.operations.values.Weak.{Weak as CodeWeak}
-use Rattle.lg_session.specs.declared.operations.values.Weak.TheVariants.{Integer}
+use Rattle.lg_operations.specs.declared.end.EvaluateEnd.{EvaluateEnd}
+use Rattle.lg_operations.specs.declared.end.EvaluateEnd.TheVariants.{Fault, NoMemory}
+use Rattle.lg_operations.specs.declared.values.Weak.{Weak as CodeWeak}
+use Rattle.lg_operations.specs.declared.values.Weak.TheVariants.{Integer}
 use Rattle.lg_session.specs.declared.session.Session.{Session}
 use Rattle.lg_session.specs.declared.value.Value.{Value}
 use Rattle.lg_session.specs.declared.value.Value.TheVariants.{Weak, Shown, Fresh}

@@ -8,12 +8,12 @@ use Rattle.lg_meaning.specs.Memory.{ArrayKind}
 use Rattle.lg_meaning.specs.Static.{Static, array_value}
 use Rattle.lg_meaning.specs.Value as meaning
 use Rattle.lg_meaning.specs.Views.{picked, view_by}
-use Rattle.lg_session.specs.Names.{view_of}
-use Rattle.lg_session.specs.Operations.{IsArrayOf}
+use Rattle.lg_operations.specs.Views.{view_of}
+use Rattle.lg_operations.specs.Operations.{IsArrayOf}
 use Rattle.lg_session.specs.Values.{value_in}
 use Rattle.lg_session.specs.Worlds.{Roots}
-use Rattle.lg_session.specs.declared.operations.end.EvaluateEnd.{EvaluateEnd}
-use Rattle.lg_session.specs.declared.operations.end.EvaluateEnd.TheVariants.{Fault, NoMemory}
+use Rattle.lg_operations.specs.declared.end.EvaluateEnd.{EvaluateEnd}
+use Rattle.lg_operations.specs.declared.end.EvaluateEnd.TheVariants.{Fault, NoMemory}
 use Rattle.lg_session.specs.declared.value.Value.{Value}
 use Rattle.lg_session.specs.declared.value.Value.TheVariants.{Weak, Shown, Fresh}
 

@@ -11,13 +11,13 @@ ghost use Rattle.lg_session.specs.Values.{value_static, value_in, IsComputed, Is
 ghost use Rattle.lg_session.specs.declared.value.Value.TheVariants.{Shown};
 
 use crate::forms::integers;
-use crate::operations::{
-    EvaluateEnd, Fresh, as_type, gather, in_shape, rule_of_copy, rule_of_flatten, rule_of_reshape,
-    scalar_array,
-};
 use crate::session::Session;
 use crate::value::Value;
 use lg_elem::DType;
+use lg_operations::{
+    EvaluateEnd, Fresh, as_type, gather, in_shape, rule_of_copy, rule_of_flatten, rule_of_reshape,
+    scalar_array,
+};
 use lg_shape::Shape;
 use lg_store::{Right, View};
 use std::alloc::Global;

@@ -22,10 +22,10 @@ use crate::evaluation::operators::{evaluate_operation, evaluate_operator};
 pub(crate) use crate::evaluation::parts::evaluate_items;
 use crate::evaluation::views::evaluate_view;
 use crate::names::Bound;
-use crate::operations::{EvaluateEnd, Weak};
 use crate::session::Session;
 use crate::value::Value;
 use lg_meaning::FaultKind;
+use lg_operations::{EvaluateEnd, Weak};
 use lg_tree::Expr;
 use std::alloc::Global;
 

@@ -10,19 +10,19 @@ ghost use Rattle.lg_meaning.specs.Static.{integers as integers_of, integer_of, w
 ghost use Rattle.lg_meaning.specs.Operators.{arith_static, compare_static, neg_static, unary_static, binary_static, choose_static, operation as operation_of, binary_value, compare_value, unary_value, choose_value};
 ghost use Rattle.lg_meaning.specs.Creation.{full_static, shaped, arange_static, type_or, array_static, list_type, filled, counted as counted_from, listed as listed_as};
 ghost use Rattle.lg_meaning.specs.Value.{only};
-ghost use Rattle.lg_session.specs.Operations.{weak_answer, weak_of, IsRanged};
+ghost use Rattle.lg_operations.specs.Operations.{weak_answer, weak_of, IsRanged};
 ghost use Rattle.lg_session.specs.Roots.{contents};
 ghost use Rattle.lg_session.specs.Values.{value_static, value_in, AreIntegers, IsUsable, IsComputed, IsWeakAnswer};
 
 use crate::lists::Members;
-use crate::operations::{
-    EvaluateEnd, Weak, binary, choose, compare, counted, full, listed, ones, unary, weak_arith,
-    weak_compare, weak_negative, zeros,
-};
 use crate::session::Session;
 use crate::value::Value;
 use lg_elem::{Binary, Compare, DType, Unary};
 use lg_meaning::FaultKind;
+use lg_operations::{
+    EvaluateEnd, Weak, binary, choose, compare, counted, full, listed, ones, unary, weak_arith,
+    weak_compare, weak_negative, zeros,
+};
 use lg_tree::Arith;
 use std::alloc::Global;
 

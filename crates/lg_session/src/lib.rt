@@ -11,7 +11,6 @@ mod forms;
 mod lists;
 mod loops;
 mod names;
-pub mod operations;
 mod repeating;
 mod roots;
 mod session;

@@ -5,12 +5,12 @@ ghost use Rattle.lg_tree.specs.View.{list_of};
 ghost use Rattle.lg_meaning.specs.Static.{weaks};
 ghost use Rattle.lg_meaning.specs.Creation.{list_shape as shape_of_list};
 ghost use Rattle.lg_session.specs.ListShapes.{is_alike as is_alike_shape};
-ghost use Rattle.lg_session.specs.Operations.{weak_of, IsRanged};
+ghost use Rattle.lg_operations.specs.Operations.{weak_of, IsRanged};
 ghost use Rattle.lg_session.specs.Roots.{contents};
 
-use crate::operations::Weak;
 use crate::session::Session;
 use crate::value::Value;
+use lg_operations::Weak;
 use lg_tree::ListExpr;
 use std::alloc::{AllocError, Global};
 

@@ -1,6 +1,6 @@
 ghost use Rattle.std.specs.Prelude.{◌≡◌, ◌↔◌, ℕ, IsTrue, List, None, Some, IfOk, IfSome, OnOk, OnErr, IsOk, IsSome, option_and_then, bytes_eq, if◌then◌else◌};
 
-use crate::operations::Weak;
+use lg_operations::Weak;
 use lg_store::View;
 use std::alloc::{AllocError, Global};
 use std::collections::BTreeMap;

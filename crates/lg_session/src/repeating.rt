@@ -10,16 +10,16 @@ ghost use Rattle.lg_meaning.specs.Static.{as_array, array_result, is_within, wea
 ghost use Rattle.lg_meaning.specs.Creation.{is_shape as is_shape_of, extents};
 ghost use Rattle.lg_meaning.specs.Value.{plain};
 ghost use Rattle.lg_meaning.specs.Views.{broadcasts_to as broadcasts_to_of, broadcast_kind, repeated};
-ghost use Rattle.lg_session.specs.Names.{view_of};
-ghost use Rattle.lg_session.specs.Operations.{weak_of, fresh_kind, fresh_value, IsMade, IsWhole};
-ghost use Rattle.lg_session.specs.Repeating.{repeats_axes};
+ghost use Rattle.lg_operations.specs.Views.{view_of};
+ghost use Rattle.lg_operations.specs.Operations.{weak_of, fresh_kind, fresh_value, IsMade, IsWhole};
+ghost use Rattle.lg_operations.specs.Repeating.{repeats_axes};
 ghost use Rattle.lg_session.specs.Stored.{IsViewOf};
 ghost use Rattle.lg_session.specs.Viewed.{picked_by, IsViewMade};
 
-use crate::operations::{
+use lg_meaning::FaultKind;
+use lg_operations::{
     EvaluateEnd, Fresh, Weak, gather, is_shape, scalar_array, shape_in, shape_within,
 };
-use lg_meaning::FaultKind;
 use lg_shape::Shape;
 use lg_store::{Right, View};
 use lg_tile::laws::full_tiles;
@@ -97,7 +97,7 @@ pub(crate) fn repeat_weak(alloc: Global, w: Weak, written: &[i128]) -> Result<Fr
 ///
 /// `Shape` where what is written is no shape, or where the value does not broadcast to exactly this
 /// one, then `Limit`.
-#[tactic(auto, using(crate::proofs::Repeatings::joined_exactly))]
+#[tactic(auto, using(lg_operations::proofs::Exactly::joined_exactly))]
 pub(crate) fn shape_to(shape: &Shape, written: &[i128]) -> Result<Shape, FaultKind>
     ensures rule { result ≡ needing (is_shape_of written.now && broadcasts_to_of shape.now
         (extents written.now)) BadShape
@@ -112,7 +112,7 @@ pub(crate) fn shape_to(shape: &Shape, written: &[i128]) -> Result<Shape, FaultKi
 }
 
 // Whether a value of this shape can be repeated to exactly the one that is written.
-#[tactic(auto, using(crate::proofs::Repeatings::repeats_shape))]
+#[tactic(auto, using(lg_operations::proofs::Exactly::repeats_shape))]
 fn broadcasts_to(shape: &Shape, written: &[i128]) -> bool
     ensures { result ≡ broadcasts_to_of shape.now (extents written.now) }
 {

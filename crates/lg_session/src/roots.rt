@@ -2,14 +2,14 @@ ghost use Rattle.std.specs.Prelude.{◌≡◌, ◌≢◌, ℕ, None, Some, IfOk,
 ghost use Rattle.lg_shape.specs.Shapes.{whole};
 ghost use Rattle.lg_tile.specs.Tiles.{dtype_of, numbers, rect_of};
 ghost use Rattle.lg_xform.specs.Chains.{layout_of, root_of as root_shape, shape_of};
-ghost use Rattle.lg_session.specs.Names.{view_of};
-ghost use Rattle.lg_session.specs.Operations.{IsWhole};
+ghost use Rattle.lg_operations.specs.Views.{view_of};
+ghost use Rattle.lg_operations.specs.Operations.{IsWhole};
 ghost use Rattle.lg_session.specs.Puts.{Puts, Writes};
 ghost use Rattle.lg_session.specs.Stored.{IsHeld};
 ghost use Rattle.lg_session.specs.Worlds.{NoRepeat};
 
-use crate::operations::is_whole;
 use lg_copy::scatter;
+use lg_operations::is_whole;
 use lg_store::View;
 use lg_tile::AnyTile;
 use lg_xform::Chain;

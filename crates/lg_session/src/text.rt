@@ -7,12 +7,12 @@ ghost use Rattle.lg_tile.specs.Tiles.{dtype_of, numbers};
 ghost use Rattle.lg_meaning.specs.Weak.{number_of};
 ghost use Rattle.lg_meaning.specs.Static.{weak_value};
 ghost use Rattle.lg_meaning.specs.Text.{element_text, nested, printed, printed_type};
-ghost use Rattle.lg_session.specs.Operations.{weak_of, extents_of, operand_static, operand_value, IsReady, IsWhole};
+ghost use Rattle.lg_operations.specs.Operations.{weak_of, extents_of, operand_static, operand_value, IsReady, IsWhole};
 ghost use Rattle.lg_session.specs.Texts.{comma, truth_text, IsPrinted};
 
-use crate::operations::{EvaluateEnd, Operand, Weak, gather, shape_in};
 use itoa::Buffer;
 use lg_elem::{DType, Elem};
+use lg_operations::{EvaluateEnd, Operand, Weak, gather, shape_in};
 use lg_shape::Shape;
 use lg_tile::{AnyTile, Tile, TileElem, each};
 use std::alloc::{AllocError, Global};

@@ -3,8 +3,8 @@ ghost use Rattle.std.specs.Prelude.{◌≡◌, false, length, option_map, option
 ghost use Rattle.lg_xform.specs.Chains.{shape_of};
 ghost use Rattle.lg_meaning.specs.Views.{transpose_axes as transpose_axes_of, transpose_kind};
 ghost use Rattle.lg_meaning.specs.Static.{array_result};
-ghost use Rattle.lg_session.specs.Names.{view_of};
-ghost use Rattle.lg_session.specs.Operations.{extents_of, fresh_kind, fresh_value, IsWhole, IsMade};
+ghost use Rattle.lg_operations.specs.Views.{view_of};
+ghost use Rattle.lg_operations.specs.Operations.{extents_of, fresh_kind, fresh_value, IsWhole, IsMade};
 ghost use Rattle.lg_session.specs.Roots.{contents};
 ghost use Rattle.lg_session.specs.Stored.{IsViewOfSome};
 ghost use Rattle.lg_session.specs.Turned.{AreNumbers, IsTurned, IsViewTurned, turned_by, turned_static};
@@ -13,11 +13,11 @@ ghost use Rattle.lg_session.specs.Viewed.{picked_by, IsViewed};
 
 use crate::axes::transpose_axes;
 use crate::forms::integers;
-use crate::operations::{EvaluateEnd, Fresh, gather, scalar_array, shape_in};
 use crate::session::Session;
 use crate::value::Value;
 use crate::views::right_of_view;
 use lg_meaning::FaultKind;
+use lg_operations::{EvaluateEnd, Fresh, gather, scalar_array, shape_in};
 use lg_shape::Step;
 use lg_store::View;
 use lg_tile::laws::full_tiles;

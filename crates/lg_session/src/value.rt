@@ -1,4 +1,4 @@
-use crate::operations::{Fresh, Weak};
+use lg_operations::{Fresh, Weak};
 use lg_store::View;
 
 /// What an expression stands for.

@@ -10,12 +10,12 @@ ghost use Rattle.lg_session.specs.Values.{value_static, value_in, IsUsable};
 ghost use Rattle.lg_session.specs.Viewed.{IsViewed};
 
 use crate::forms::integers;
-use crate::operations::EvaluateEnd;
 use crate::repeating::{repeat_fresh, repeat_view, repeat_weak};
 use crate::session::Session;
 use crate::turning::{axis_numbers, transpose};
 use crate::value::Value;
 use crate::views::{index_fresh, index_shown, index_weak};
+use lg_operations::EvaluateEnd;
 use lg_shape::IndexItem;
 use std::alloc::Global;
 

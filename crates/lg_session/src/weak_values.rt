@@ -6,13 +6,13 @@ ghost use Rattle.lg_tree.specs.View.{tree_of};
 ghost use Rattle.lg_meaning.specs.Memory.{State};
 ghost use Rattle.lg_meaning.specs.Operators.{arith_static};
 ghost use Rattle.lg_meaning.specs.Static.{weak_value as weak_kind};
-ghost use Rattle.lg_session.specs.Operations.{weak_of, IsRanged};
+ghost use Rattle.lg_operations.specs.Operations.{weak_of, IsRanged};
 ghost use Rattle.lg_session.specs.Standing.{StandsFor};
 ghost use Rattle.lg_session.specs.Values.{Means};
 ghost use Rattle.lg_session.specs.declared.value.Value.TheVariants.{Weak as WeakValue};
 
-use crate::operations::{Weak, weak_arith};
 use crate::session::Session;
+use lg_operations::{Weak, weak_arith};
 use lg_tree::{Arith, Expr};
 
 /// The value of an expression of numbers, names of weak numbers and arithmetic on them; none where

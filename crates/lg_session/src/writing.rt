@@ -14,27 +14,27 @@ ghost use Rattle.lg_meaning.specs.Expressions.{items_of};
 ghost use Rattle.lg_meaning.specs.Memory.{State, View as ViewOf, writable};
 ghost use Rattle.lg_meaning.specs.Step.{step, write_step, update_answer};
 ghost use Rattle.lg_session.specs.Built.{is_built_tree, are_built_items};
-ghost use Rattle.lg_session.specs.Names.{view_of, environment};
-ghost use Rattle.lg_session.specs.Operations.{right_for};
+ghost use Rattle.lg_operations.specs.Views.{view_of};
+ghost use Rattle.lg_session.specs.Names.{environment};
+ghost use Rattle.lg_operations.specs.Operations.{right_for};
 ghost use Rattle.lg_session.specs.Roots.{contents};
 ghost use Rattle.lg_session.specs.Session.{IsBound, IsDone, IsTidyAt};
 ghost use Rattle.lg_session.specs.Standing.{StandsFor, roots_in, names_in};
 ghost use Rattle.lg_session.specs.Stored.{IsHeld};
 ghost use Rattle.lg_session.specs.Values.{value_static, value_in, IsUsable};
 ghost use Rattle.lg_session.specs.Worlds.{IsInside, IsShown};
-ghost use Rattle.lg_session.specs.Writing.{put_rule, IsTakenBy, IsTarget, ShowsTarget};
+ghost use Rattle.lg_operations.specs.Taking.{put_rule, IsTakenBy};
+ghost use Rattle.lg_session.specs.Writing.{IsTarget, ShowsTarget};
 
 use crate::evaluation::{evaluate, evaluate_items, named};
 use crate::forms::{arithmetic, operation};
 use crate::names::Bound;
-use crate::operations::{
-    EvaluateEnd, Fresh, binary, is_writable, rule_of_update, taken, taken_fresh,
-};
 use crate::session::Session;
 use crate::value::Value;
 use crate::viewing::MOST_ITEMS;
 use crate::views::index_view;
 use lg_meaning::FaultKind;
+use lg_operations::{EvaluateEnd, Fresh, binary, is_writable, rule_of_update, taken, taken_fresh};
 use lg_store::{Right, View};
 use lg_tree::{Arith, Expr, Item};
 use std::alloc::Global;

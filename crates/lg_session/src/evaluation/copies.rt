@@ -11,9 +11,9 @@ ghost use Rattle.lg_session.specs.Forms.{is_copy};
 use crate::copying::{converted, copied, flattened, reshaped};
 use crate::evaluation::evaluate;
 use crate::evaluation::parts::evaluate_extents;
-use crate::operations::EvaluateEnd;
 use crate::session::Session;
 use crate::value::Value;
+use lg_operations::EvaluateEnd;
 use lg_tree::Expr;
 use std::alloc::Global;
 

@@ -10,10 +10,10 @@ ghost use Rattle.lg_session.specs.Forms.{is_operator, is_operation};
 
 use crate::evaluation::evaluate;
 use crate::forms::{arithmetic, choice, comparison, negative, one_operand, two_operands};
-use crate::operations::EvaluateEnd;
 use crate::session::Session;
 use crate::value::Value;
 use lg_elem::{Binary, Unary};
+use lg_operations::EvaluateEnd;
 use lg_tree::Expr;
 use std::alloc::Global;
 

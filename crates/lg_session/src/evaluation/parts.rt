@@ -10,10 +10,10 @@ ghost use Rattle.lg_session.specs.Parts.{item_list, is_typed_with, AreItems, IsI
 ghost use Rattle.lg_session.specs.Built.{is_built_maybe, is_built_axes, is_built_item, are_built_items, is_built_shape};
 
 use crate::evaluation::evaluate;
-use crate::operations::{EvaluateEnd, Weak};
 use crate::session::Session;
 use crate::value::Value;
 use lg_meaning::FaultKind;
+use lg_operations::{EvaluateEnd, Weak};
 use lg_shape::IndexItem;
 use lg_tree::{Expr, Item, ShapeExpr};
 use std::alloc::{AllocError, Global};

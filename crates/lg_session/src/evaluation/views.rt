@@ -10,11 +10,11 @@ ghost use Rattle.lg_session.specs.Forms.{is_view};
 
 use crate::evaluation::evaluate;
 use crate::evaluation::parts::{evaluate_axes, evaluate_extents, evaluate_items};
-use crate::operations::EvaluateEnd;
 use crate::session::Session;
 use crate::value::Value;
 use crate::viewing::{broadcast, indexed, transposed};
 use lg_meaning::FaultKind;
+use lg_operations::EvaluateEnd;
 use lg_tree::Expr;
 use std::alloc::Global;
 

@@ -4,7 +4,7 @@ use Rattle.lg_meaning.specs.Loops.{turn_count}
 use Rattle.lg_meaning.specs.Run.{MAX_STATEMENTS, run_lines, turns, looped}
 use Rattle.lg_meaning.specs.Weak.{integer}
 use Rattle.lg_session.specs.Built.{unbuilt_in}
-use Rattle.lg_session.specs.Operations.{IsRanged}
+use Rattle.lg_operations.specs.Operations.{IsRanged}
 use Rattle.lg_session.specs.Session.{is_spent}
 use Rattle.lg_session.specs.Turns.{bounds_in}
 use Rattle.legate.proofs.Walks.{Midway}

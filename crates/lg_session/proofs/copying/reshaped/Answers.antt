@@ -2,8 +2,8 @@ use Rattle.std.proofs.Common.{◌≡◌, map, Ok, sym, ap, subst, ◌∙◌}
 use Rattle.lg_meaning.specs.Copies.{reshape_static, same_numbers}
 use Rattle.lg_meaning.specs.Faults.{from_part}
 use Rattle.lg_meaning.specs.Static.{as_array}
-use Rattle.lg_session.specs.Operations.{IsArrayOf}
-use Rattle.lg_session.specs.Reshaping.{reshape_kind}
+use Rattle.lg_operations.specs.Operations.{IsArrayOf}
+use Rattle.lg_operations.specs.Reshaping.{reshape_kind}
 use Rattle.lg_session.specs.Roots.{contents}
 use Rattle.lg_session.specs.Values.{value_static, value_in}
 use Rattle.lg_session.proofs.Copyings.{array_anew, reshaped_type}

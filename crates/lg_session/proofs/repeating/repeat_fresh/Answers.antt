@@ -1,12 +1,12 @@
-use Rattle.std.proofs.Common.{◌≡◌, ℕ, List, Ok, map, get_or, pos, sym, ap, ◌∙◌}
+use Rattle.std.proofs.Common.{◌≡◌, ℕ, Ok, map, get_or, pos, sym, ap, ◌∙◌}
 use Rattle.lg_shape.specs.Shapes.{whole}
 use Rattle.lg_shape.specs.Views.{Layout, whole_layout}
 use Rattle.lg_tile.specs.Tiles.{numbers}
 use Rattle.lg_xform.specs.Chains.{shape_of, layout_of}
-use Rattle.lg_meaning.specs.Memory.{ArrayKind, read_only}
+use Rattle.lg_meaning.specs.Memory.{read_only}
 use Rattle.lg_meaning.specs.Static.{array_value, array_result}
 use Rattle.lg_meaning.specs.Views.{repeated}
-use Rattle.lg_session.specs.Operations.{extents_of, fresh_kind}
+use Rattle.lg_operations.specs.Operations.{extents_of, fresh_kind}
 use Rattle.lg_session.proofs.HeldLemmas.{extents_back}
 use Rattle.lg_session.proofs.Repeatings.{written_rule, kind_repeated}
 use Rattle.lg_session.proofs.repeating.repeat_fresh.Goals as goal

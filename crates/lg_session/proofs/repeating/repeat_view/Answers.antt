@@ -1,4 +1,4 @@
-use Rattle.std.proofs.Common.{◌≡◌, sym, ap, ◌∙◌, arith}
+use Rattle.std.proofs.Common.{sym, ap, ◌∙◌, arith}
 use Rattle.lg_shape.specs.Shapes.{size_of}
 use Rattle.lg_session.proofs.HeldLemmas.{places_inside}
 use Rattle.lg_session.proofs.Onces.{not_writable}

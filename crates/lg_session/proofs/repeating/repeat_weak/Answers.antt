@@ -1,9 +1,9 @@
-use Rattle.std.proofs.Common.{◌≡◌, [], ◌∷◌}
+use Rattle.std.proofs.Common.{[], ◌∷◌}
 use Rattle.lg_meaning.specs.Weak.{number_of}
 use Rattle.lg_meaning.specs.Static.{as_array, array_result, weak_value}
 use Rattle.lg_meaning.specs.Value.{plain}
 use Rattle.lg_meaning.specs.Views.{broadcast_kind, repeated}
-use Rattle.lg_session.specs.Operations.{weak_of}
+use Rattle.lg_operations.specs.Operations.{weak_of}
 use Rattle.lg_session.proofs.Repeatings.{scalar_made}
 use Rattle.lg_session.proofs.repeating.repeat_weak.Goals as goal
 

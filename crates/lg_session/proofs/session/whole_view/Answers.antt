@@ -6,7 +6,7 @@ use Rattle.lg_tile.specs.Tiles.{numbers}
 use Rattle.lg_tile.proofs.NumberLemmas.{numbers_full}
 use Rattle.lg_xform.specs.Chains.{shape_of, root_of, layout_of}
 use Rattle.lg_shape.specs.Views.{Layout}
-use Rattle.lg_session.specs.Operations.{extents_of}
+use Rattle.lg_operations.specs.Operations.{extents_of}
 use Rattle.lg_session.specs.Worlds.{NoRepeat}
 use Rattle.lg_session.proofs.HeldLemmas.{places_inside, unsplit_whole}
 use Rattle.lg_session.proofs.Onces.{once_range}

@@ -1,4 +1,4 @@
-use Rattle.std.proofs.Common.{◌≡◌, ◌≤◌, ◌-◌, ◌*◌, ◌+◌, ◌++◌, take, drop, length, map, sym, ap, ◌∙◌, rules}
+use Rattle.std.proofs.Common.{◌≡◌, ◌-◌, ◌*◌, ◌+◌, ◌++◌, take, drop, length, map, sym, ap, ◌∙◌, rules}
 use Rattle.std.proofs.lemmas.Result.{on_ok_weaker}
 use Rattle.lg_shape.specs.Shapes.{size_of}
 use Rattle.lg_meaning.specs.Text.{nested, rows}

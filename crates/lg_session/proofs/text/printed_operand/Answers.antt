@@ -2,9 +2,9 @@ use Rattle.std.proofs.Common.{◌≡◌, refl, sym, ap, subst, ◌∙◌}
 use Rattle.lg_tile.specs.Tiles.{dtype_of, numbers}
 use Rattle.lg_xform.specs.Chains.{shape_of}
 use Rattle.lg_meaning.specs.Text.{printed}
-use Rattle.lg_session.specs.Operations.{extents_of, operand_static, operand_value, seen_value}
+use Rattle.lg_operations.specs.Operations.{extents_of, operand_static, operand_value, seen_value}
 use Rattle.lg_session.specs.Texts.{IsPrintedAs}
-use Rattle.lg_session.proofs.Shapes.{ends_of, ends-whole, whole_tile}
+use Rattle.lg_operations.proofs.Shapes.{ends_of, ends-whole, whole_tile}
 use Rattle.lg_session.proofs.text.printed_operand.Goals as goal
 
 pub printed_array-requires-in-View : goal.printed_array-requires-in-View

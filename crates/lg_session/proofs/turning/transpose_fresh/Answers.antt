@@ -1,12 +1,11 @@
-use Rattle.std.proofs.Common.{◌≡◌, ℕ, [], length, map, get_or, pos, Ok, option_copied, refl, sym, ap, subst, ◌∙◌}
+use Rattle.std.proofs.Common.{◌≡◌, ℕ, [], length, map, get_or, pos, Ok, option_copied, sym, ap, subst, ◌∙◌}
 use Rattle.lg_shape.specs.Shapes.{whole}
-use Rattle.lg_shape.specs.Views.{Layout, whole_layout, shape_after}
-use Rattle.lg_shape.specs.declared.step.Step.TheVariants.{Transpose}
+use Rattle.lg_shape.specs.Views.{Layout, whole_layout}
 use Rattle.lg_tile.specs.Tiles.{numbers}
 use Rattle.lg_xform.specs.Chains.{shape_of, layout_of}
 use Rattle.lg_meaning.specs.Faults.{known_or}
 use Rattle.lg_meaning.specs.Views.{transpose_axes, transposed}
-use Rattle.lg_session.specs.Operations.{extents_of, fresh_kind}
+use Rattle.lg_operations.specs.Operations.{extents_of, fresh_kind}
 use Rattle.lg_session.proofs.AxesLemmas.{turned_kind}
 use Rattle.lg_session.proofs.HeldLemmas.{extents_back}
 use Rattle.lg_session.proofs.turning.transpose_fresh.Goals as goal

@@ -5,8 +5,8 @@ use Rattle.lg_xform.specs.Chains.{shape_of, layout_of}
 use Rattle.lg_xform.proofs.Picks.{all_places}
 use Rattle.lg_meaning.specs.Faults.{known_or}
 use Rattle.lg_meaning.specs.Views.{transpose_axes, transposed}
-use Rattle.lg_session.specs.Names.{view_of}
-use Rattle.lg_session.specs.Operations.{right_for}
+use Rattle.lg_operations.specs.Views.{view_of}
+use Rattle.lg_operations.specs.Operations.{right_for}
 use Rattle.lg_session.specs.Worlds.{NoRepeat}
 use Rattle.lg_session.proofs.AxesLemmas.{axes_once, turned_kind}
 use Rattle.lg_session.proofs.HeldLemmas.{places_inside}

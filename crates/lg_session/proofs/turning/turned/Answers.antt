@@ -1,6 +1,4 @@
-use Rattle.std.proofs.Common.{◌≡◌, ℕ, length, take, Ok, option_copied, ap, subst, sym, ◌∙◌}
-use Rattle.std.specs.List.{range_with_len}
-use Rattle.std.specs.List.Sorted.{IsPermutation}
+use Rattle.std.proofs.Common.{◌≡◌, length, take, Ok, option_copied, ap, subst, sym, ◌∙◌}
 use Rattle.lg_shape.specs.Shapes.{size_of}
 use Rattle.lg_xform.specs.Chains.{shape_of, inner_of, layout_of, IsUnsplit}
 use Rattle.lg_meaning.specs.Views.{transpose_axes}

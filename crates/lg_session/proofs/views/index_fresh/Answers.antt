@@ -8,7 +8,7 @@ use Rattle.lg_xform.specs.Chains.{shape_of, layout_of}
 use Rattle.lg_meaning.specs.Memory.{ArrayKind}
 use Rattle.lg_meaning.specs.Static.{array_value, array_result}
 use Rattle.lg_meaning.specs.Indices.{is_element, picked_kind, unless_faulty}
-use Rattle.lg_session.specs.Operations.{extents_of, fresh_kind}
+use Rattle.lg_operations.specs.Operations.{extents_of, fresh_kind}
 use Rattle.lg_session.proofs.HeldLemmas.{extents_back}
 use Rattle.lg_session.proofs.ViewLemmas.{size-indexed, element_shape, kind_picked}
 use Rattle.lg_session.proofs.views.index_fresh.Goals as goal

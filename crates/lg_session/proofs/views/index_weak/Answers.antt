@@ -2,7 +2,7 @@ use Rattle.std.proofs.Common.{[], ◌∷◌}
 use Rattle.lg_meaning.specs.Static.{weak_value}
 use Rattle.lg_meaning.specs.Value.{plain}
 use Rattle.lg_meaning.specs.Weak.{number_of}
-use Rattle.lg_session.specs.Operations.{weak_of}
+use Rattle.lg_operations.specs.Operations.{weak_of}
 use Rattle.lg_session.proofs.IndexLemmas.{index_counted}
 use Rattle.lg_session.proofs.views.index_weak.Goals as goal
 

@@ -1,5 +1,5 @@
 use Rattle.std.proofs.Common.{Some, ap, sym, ◌∙◌}
-use Rattle.lg_session.specs.Operations.{weak_answer}
+use Rattle.lg_operations.specs.Operations.{weak_answer}
 use Rattle.lg_session.proofs.RangeLemmas.{arith_within}
 use Rattle.lg_session.proofs.weak_values.weak_operation.Goals as goal
 

@@ -1,7 +1,7 @@
 use Rattle.std.proofs.Common.{◌≡◌, Some, slice_get, sym, ap, ◌∙◌, rules}
 use Rattle.std.proofs.lemmas.Option.{slice_get-get_or}
 use Rattle.lg_tile.specs.Tiles.{numbers}
-use Rattle.lg_session.specs.Names.{view_of}
+use Rattle.lg_operations.specs.Views.{view_of}
 use Rattle.lg_session.specs.Stored.{IsViewOf}
 use Rattle.lg_session.proofs.RootLemmas.{held_below, writes_at}
 use Rattle.lg_session.proofs.roots.Roots.write.Goals as goal

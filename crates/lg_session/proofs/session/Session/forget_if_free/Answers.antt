@@ -1,4 +1,3 @@
-use Rattle.std.proofs.Common.{◌≡◌, ◌∙◌}
 use Rattle.lg_session.specs.Names.{IsReached}
 use Rattle.lg_session.specs.Roots.{contents}
 use Rattle.lg_session.proofs.HeldLemmas.{held_kept, kept_unreached}

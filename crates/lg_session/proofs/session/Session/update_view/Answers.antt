@@ -1,12 +1,11 @@
-use Rattle.std.proofs.Common.{◌≡◌, Ok, Err, sym, subst}
+use Rattle.std.proofs.Common.{Err, sym, subst}
 use Rattle.std.proofs.lemmas.Result.{err_from_is_err_and}
 use Rattle.lg_tree.specs.View.{tree_of}
-use Rattle.lg_meaning.specs.Operators.{binary_static, binary_value, operation}
+use Rattle.lg_meaning.specs.Operators.{binary_static, binary_value}
 use Rattle.lg_meaning.specs.Static.{array_value}
 use Rattle.lg_meaning.specs.Step.{update_answer}
-use Rattle.lg_xform.specs.Chains.{shape_of}
-use Rattle.lg_session.specs.Operations.{fresh_kind, fresh_value, operand_static, operand_value, IsArrayOf}
-use Rattle.lg_session.specs.Writing.{taking, HasTaken, IsTakenBy}
+use Rattle.lg_operations.specs.Operations.{fresh_kind, fresh_value, operand_static, operand_value, IsArrayOf}
+use Rattle.lg_operations.specs.Taking.{taking, HasTaken, IsTakenBy}
 use Rattle.lg_session.proofs.WriteSteps.{write_done, update_rule_fault, update_taken_end, update_numbers, update_is}
 use Rattle.lg_session.proofs.session.Session.update_view.Goals as goal
 

@@ -1,7 +1,7 @@
 use Rattle.std.proofs.Common.{◌≡◌, None, rules}
 use Rattle.lg_tile.specs.Tiles.{numbers}
 use Rattle.lg_session.specs.Roots.{contents}
-use Rattle.lg_session.proofs.WriteHeld.{are_held_written, tidy_written, represents_written, held_once, tile_count}
+use Rattle.lg_session.proofs.WriteHeld.{are_held_written, represents_written, held_once, tile_count}
 use Rattle.lg_session.proofs.session.Session.write.Goals as goal
 
 pub invariant_of-self-clause-held : goal.invariant_of-self-clause-held

@@ -1,0 +1,10 @@
+pub mod Operations
+pub mod Views
+pub mod Ruling
+pub mod Cutting
+pub mod Gathering
+pub mod Lending
+pub mod Pieces
+pub mod Repeating
+pub mod Reshaping
+pub mod Taking

@@ -1,5 +1,0 @@
-use Rattle.std.proofs.Common.{length}
-use Rattle.lg_session.proofs.operations.reshaping.+count_open.Given as goal
-
-abbrev pub decreases-count_open : goal.decreases-count_open
-decreases-count_open l = length l.written.now

@@ -1,5 +1,0 @@
-use Rattle.std.proofs.Common.{length}
-use Rattle.lg_session.proofs.operations.written.+put_extents.Given as goal
-
-abbrev pub decreases-put_extents : goal.decreases-put_extents
-decreases-put_extents l = length l.written.now

@@ -1,6 +1,0 @@
-use Rattle.std.proofs.Common.{◌≡◌}
-use Rattle.lg_session.proofs.Written.{truths_more}
-use Rattle.lg_session.proofs.operations.written.are_truths.Goals as goal
-
-pub loop-w-preserved : goal.loop-w-preserved
-loop-w-preserved c = truths_more c.args.weaks.now c.loop-w.w-index _ c.loop-w.all c.is_truth-all.result c.loop-w-test.true c.loop-w.invariant c.is_truth-all.ensures
