@@ -8,7 +8,7 @@ ghost use Rattle.legate.specs.Running.{Ends, IsStopped, stop_of};
 use crate::walk::run_lines;
 use lg_meaning::FaultKind;
 use lg_outside::Sink;
-use lg_session::{Session, StopEnd};
+use lg_session::{Room, Session, Spares, StopEnd};
 use lg_tree::Script;
 use std::alloc::Global;
 
@@ -59,9 +59,10 @@ pub fn run_script<K: Sink>(alloc: Global, script: &Script, out: &mut K) -> Resul
     let Ok(mut session) = Session::new(alloc, PIECES) else {
         return Err(RunStop::NoMemory);
     };
+    let spares = Spares::new();
     let mut count = 0;
     run_lines(
-        alloc,
+        Room::beside(alloc, &spares),
         script.lines.as_slice(),
         &mut session,
         &mut count,

@@ -13,9 +13,8 @@ ghost use Rattle.legate.specs.Running.{is_loop, block_turns, block_unbuilt, Goes
 use crate::running::RunStop;
 use lg_meaning::FaultKind;
 use lg_outside::{Sink, write_all};
-use lg_session::{Session, Turns};
+use lg_session::{Room, Session, Turns};
 use lg_tree::{Line, Statement};
-use std::alloc::Global;
 
 /// How many statements are run at most, the line of a loop counted each time it is reached. A script
 /// that reaches one more has a fault there.
@@ -25,7 +24,7 @@ const MAX_STATEMENTS: u64 = 100_000;
 /// statements that the run has reached so far without a fault.
 #[cycle(lines)]
 pub(crate) fn run_lines<K: Sink>(
-    alloc: Global,
+    room: Room<'_>,
     lines: &[Line],
     session: &mut Session,
     count: &mut u64,
@@ -47,7 +46,7 @@ pub(crate) fn run_lines<K: Sink>(
     ensures later { K.faults out.old ≤ K.faults out.new }
 {
     for line in lines {
-        run_line(alloc, line, session, count, out)?;
+        run_line(room, line, session, count, out)?;
     }
     Ok(())
 }
@@ -55,7 +54,7 @@ pub(crate) fn run_lines<K: Sink>(
 // The same of one line.
 #[cycle(lines)]
 fn run_line<K: Sink>(
-    alloc: Global,
+    room: Room<'_>,
     line: &Line,
     session: &mut Session,
     count: &mut u64,
@@ -87,16 +86,16 @@ fn run_line<K: Sink>(
     }
     match &line.statement {
         Statement::For { .. } => {
-            run_loop(alloc, line.number, &line.statement, session, count, out)
+            run_loop(room, line.number, &line.statement, session, count, out)
         }
-        _ => step_line(alloc, line, session, count, out),
+        _ => step_line(room, line, session, count, out),
     }
 }
 
 // Runs a loop, with the number of its line.
 #[cycle(lines)]
 fn run_loop<K: Sink>(
-    alloc: Global,
+    room: Room<'_>,
     number: u64,
     statement: &Statement,
     session: &mut Session,
@@ -124,12 +123,12 @@ fn run_loop<K: Sink>(
 {
     match statement {
         Statement::For { from, to, .. } => {
-            let turns = match session.open_loop(alloc, number, from, to) {
+            let turns = match session.open_loop(room, number, from, to) {
                 Ok(turns) => turns,
                 Err(stop) => return Err(RunStop::from(stop.end)),
             };
             *count += 1;
-            run_block(alloc, turns, statement, session, count, out)
+            run_block(room, turns, statement, session, count, out)
         }
         _ => unreachable!(),
     }
@@ -138,7 +137,7 @@ fn run_loop<K: Sink>(
 // Runs the turns of a statement that is a loop.
 #[cycle(lines)]
 fn run_block<K: Sink>(
-    alloc: Global,
+    room: Room<'_>,
     turns: Turns,
     statement: &Statement,
     session: &mut Session,
@@ -167,7 +166,7 @@ fn run_block<K: Sink>(
     match statement {
         Statement::For { name, body, .. } => {
             run_turns(
-                alloc,
+                room,
                 name.as_slice(),
                 turns,
                 body.as_slice(),
@@ -183,7 +182,7 @@ fn run_block<K: Sink>(
 // Runs the turns of a loop: each binds the variable first, and then runs the lines of the block.
 #[cycle(lines)]
 fn run_turns<K: Sink>(
-    alloc: Global,
+    room: Room<'_>,
     name: &[u8],
     turns: Turns,
     body: &[Line],
@@ -215,7 +214,7 @@ fn run_turns<K: Sink>(
         let Ok(()) = session.bind_turn(name, value) else {
             return Err(RunStop::NoMemory);
         };
-        run_lines(alloc, body, session, count, out)?;
+        run_lines(room, body, session, count, out)?;
         value += 1;
     }
     Ok(())
@@ -223,7 +222,7 @@ fn run_turns<K: Sink>(
 
 // Runs a line without a block.
 fn step_line<K: Sink>(
-    alloc: Global,
+    room: Room<'_>,
     line: &Line,
     session: &mut Session,
     count: &mut u64,
@@ -247,14 +246,14 @@ fn step_line<K: Sink>(
     ensures fault { IsErrOf result RunStop.WriteFault → Rose (K.faults out.old) (K.faults out.new) }
     ensures later { K.faults out.old ≤ K.faults out.new }
 {
-    perform(alloc, line, session, out)?;
+    perform(room, line, session, out)?;
     *count += 1;
     Ok(())
 }
 
 // Performs the statement of a line, and writes what it prints.
 fn perform<K: Sink>(
-    alloc: Global,
+    room: Room<'_>,
     line: &Line,
     session: &mut Session,
     out: &mut K,
@@ -269,7 +268,7 @@ fn perform<K: Sink>(
     ensures fault { IsErrOf result RunStop.WriteFault → Rose (K.faults out.old) (K.faults out.new) }
     ensures later { K.faults out.old ≤ K.faults out.new }
 {
-    let text = match session.step(alloc, line) {
+    let text = match session.step(room, line) {
         Ok(text) => text,
         Err(stop) => return Err(RunStop::from(stop.end)),
     };

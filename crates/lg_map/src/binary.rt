@@ -21,12 +21,11 @@ use lg_elem::kernels::{
 use lg_elem::{Binary, Flag};
 use lg_outside::NoMemory;
 use lg_space::AnyRect;
-use lg_tile::{AnyTile, Tile, TileElem};
-use std::alloc::Global;
+use lg_tile::{AnyTile, Room, Tile, TileElem};
 
 /// The operation on two operands, with results of a known type.
 pub fn binary_tile<'a, T: TileElem + Divide>(
-    alloc: Global,
+    room: Room<'_>,
     op: Binary,
     x: &Operand,
     y: &Operand,
@@ -38,16 +37,16 @@ pub fn binary_tile<'a, T: TileElem + Divide>(
     ensures { IfOk result (Maps (ops.Binary op x.now y.now) T.DTYPE
         (map (λ input. input.now) inputs.now) rect.now) }
 {
-    let x = operand::<T>(alloc, inputs, x, rect)?;
-    let y = operand::<T>(alloc, inputs, y, rect)?;
-    let tile = combined(alloc, op, &x, &y, rect)?;
+    let x = operand::<T>(room.alloc(), inputs, x, rect)?;
+    let y = operand::<T>(room.alloc(), inputs, y, rect)?;
+    let tile = combined(room, op, &x, &y, rect)?;
     let flag = fault(op, &y, rect.volume() as usize);
     Ok((T::any(tile), flag))
 }
 
 // The tile of the results.
 fn combined<T: TileElem + Divide>(
-    alloc: Global,
+    room: Room<'_>,
     op: Binary,
     x: &Values<T>,
     y: &Values<T>,
@@ -60,7 +59,7 @@ fn combined<T: TileElem + Divide>(
         ≡ listed (λ place. value_of op T.DTYPE (wrap T.DTYPE (number_in T.number x.now place))
         (wrap T.DTYPE (number_in T.number y.now place))) (volume_of rect.now)) }
 {
-    let mut tile = Tile::filled(alloc, rect, T::wrap(0))?;
+    let mut tile = room.tile(rect)?;
     combine(op, tile.items_mut(), x, y);
     Ok(tile)
 }

@@ -20,12 +20,11 @@ use lg_elem::kernels::{Eq, Ge, Gt, Le, Lt, Ne};
 use lg_elem::{Compare, Flag};
 use lg_outside::NoMemory;
 use lg_space::AnyRect;
-use lg_tile::{AnyTile, Tile, TileElem, by_type};
-use std::alloc::Global;
+use lg_tile::{AnyTile, Room, Tile, TileElem, by_type};
 
 /// The comparison of two operands.
 pub fn compare_tile<'a>(
-    alloc: Global,
+    room: Room<'_>,
     op: Compare,
     x: &Operand,
     y: &Operand,
@@ -37,13 +36,13 @@ pub fn compare_tile<'a>(
     ensures { IfOk result (Maps (ops.Compare op x.now y.now) Truth
         (map (λ input. input.now) inputs.now) rect.now) }
 {
-    let tile = truths(alloc, op, x, y, inputs, rect)?;
+    let tile = truths(room, op, x, y, inputs, rect)?;
     Ok((bool::any(tile), Flag::Clear))
 }
 
 // The tile of the truth values, by the kinds of the operands.
 fn truths<'a>(
-    alloc: Global,
+    room: Room<'_>,
     op: Compare,
     x: &Operand,
     y: &Operand,
@@ -59,16 +58,16 @@ fn truths<'a>(
     match (x, y) {
         (Operand::Input(x), Operand::Input(y)) => {
             let (x, y) = (input(inputs, *x, rect), input(inputs, *y, rect));
-            Ok(compare_tiles(alloc, op, x, y, rect)?)
+            Ok(compare_tiles(room, op, x, y, rect)?)
         }
         (Operand::Input(x), Operand::Constant(y)) => {
-            Ok(compare_number(alloc, op, input(inputs, *x, rect), *y, rect)?)
+            Ok(compare_number(room, op, input(inputs, *x, rect), *y, rect)?)
         }
         (Operand::Constant(x), Operand::Input(y)) => {
-            Ok(compare_from(alloc, op, *x, input(inputs, *y, rect), rect)?)
+            Ok(compare_from(room, op, *x, input(inputs, *y, rect), rect)?)
         }
         (Operand::Constant(x), Operand::Constant(y)) => {
-            Ok(compare_numbers(alloc, op, *x, *y, rect)?)
+            Ok(compare_numbers(room, op, *x, *y, rect)?)
         }
     }
 }
@@ -90,7 +89,7 @@ fn mirrored(op: Compare) -> Compare
 // A number and a tile of any type.
 #[tactic(auto, using(crate::proofs::MapLemmas::mirrored_truths))]
 fn compare_from(
-    alloc: Global,
+    room: Room<'_>,
     op: Compare,
     x: i128,
     y: &AnyTile,
@@ -101,12 +100,12 @@ fn compare_from(
     ensures { IfOk result
         (λ tile. IsTruths tile rect.now op (λ index. x) (number_at y.now)) }
 {
-    Ok(compare_number(alloc, mirrored(op), y, x, rect)?)
+    Ok(compare_number(room, mirrored(op), y, x, rect)?)
 }
 
 // Two tiles of any types.
 fn compare_tiles(
-    alloc: Global,
+    room: Room<'_>,
     op: Compare,
     x: &AnyTile,
     y: &AnyTile,
@@ -117,12 +116,12 @@ fn compare_tiles(
     ensures { IfOk result
         (λ tile. IsTruths tile rect.now op (number_at x.now) (number_at y.now)) }
 {
-    by_type!(x.dtype(), compare_left::<_>(alloc, op, x, y, rect))
+    by_type!(x.dtype(), compare_left::<_>(room, op, x, y, rect))
 }
 
 // Two tiles, of which the first has a known type.
 fn compare_left<A: TileElem>(
-    alloc: Global,
+    room: Room<'_>,
     op: Compare,
     x: &AnyTile,
     y: &AnyTile,
@@ -134,12 +133,12 @@ fn compare_left<A: TileElem>(
     ensures { IfOk result
         (λ tile. IsTruths tile rect.now op (number_at x.now) (number_at y.now)) }
 {
-    by_type!(y.dtype(), compare_typed::<_, A>(alloc, op, x, y, rect))
+    by_type!(y.dtype(), compare_typed::<_, A>(room, op, x, y, rect))
 }
 
 // Two tiles of known types.
 fn compare_typed<B: TileElem, A: TileElem>(
-    alloc: Global,
+    room: Room<'_>,
     op: Compare,
     x: &AnyTile,
     y: &AnyTile,
@@ -152,14 +151,14 @@ fn compare_typed<B: TileElem, A: TileElem>(
     ensures { IfOk result
         (λ tile. IsTruths tile rect.now op (number_at x.now) (number_at y.now)) }
 {
-    let x = part_of::<A>(alloc, x, rect)?;
-    let y = part_of::<B>(alloc, y, rect)?;
-    Ok(compare_lists::<A, B>(alloc, op, x.items(), y.items(), rect)?)
+    let x = part_of::<A>(room.alloc(), x, rect)?;
+    let y = part_of::<B>(room.alloc(), y, rect)?;
+    Ok(compare_lists::<A, B>(room, op, x.items(), y.items(), rect)?)
 }
 
 // The truth values of two lists.
 fn compare_lists<A: TileElem, B: TileElem>(
-    alloc: Global,
+    room: Room<'_>,
     op: Compare,
     x: &[A],
     y: &[B],
@@ -172,7 +171,7 @@ fn compare_lists<A: TileElem, B: TileElem>(
         ≡ listed (λ place. pos (from_bool (compare_of op (item_at A.number x.now place)
         (item_at B.number y.now place)))) (volume_of rect.now)) }
 {
-    let mut tile = Tile::filled(alloc, rect, false)?;
+    let mut tile = room.tile(rect)?;
     compare_each(op, tile.items_mut(), x, y);
     Ok(tile)
 }
@@ -197,7 +196,7 @@ fn compare_each<A: TileElem, B: TileElem>(op: Compare, out: &mut [bool], x: &[A]
 
 // A tile of any type and a number.
 fn compare_number(
-    alloc: Global,
+    room: Room<'_>,
     op: Compare,
     x: &AnyTile,
     y: i128,
@@ -208,12 +207,12 @@ fn compare_number(
     ensures { IfOk result
         (λ tile. IsTruths tile rect.now op (number_at x.now) (λ index. y)) }
 {
-    by_type!(x.dtype(), compare_typed_number::<_>(alloc, op, x, y, rect))
+    by_type!(x.dtype(), compare_typed_number::<_>(room, op, x, y, rect))
 }
 
 // A tile of a known type and a number.
 fn compare_typed_number<A: TileElem>(
-    alloc: Global,
+    room: Room<'_>,
     op: Compare,
     x: &AnyTile,
     y: i128,
@@ -225,14 +224,14 @@ fn compare_typed_number<A: TileElem>(
     ensures { IfOk result
         (λ tile. IsTruths tile rect.now op (number_at x.now) (λ index. y)) }
 {
-    let x = part_of::<A>(alloc, x, rect)?;
-    Ok(compare_items::<A>(alloc, op, x.items(), y, rect)?)
+    let x = part_of::<A>(room.alloc(), x, rect)?;
+    Ok(compare_items::<A>(room, op, x.items(), y, rect)?)
 }
 
 // The truth values of a list and a number. The number is compared as an element: of the same type
 // where that has it, so that equal types are compared, else of one that has it.
 fn compare_items<A: TileElem>(
-    alloc: Global,
+    room: Room<'_>,
     op: Compare,
     x: &[A],
     y: i128,
@@ -246,12 +245,12 @@ fn compare_items<A: TileElem>(
         (volume_of rect.now)) }
 {
     if has_number::<A>(y) {
-        return compare_as::<A, A>(alloc, op, x, y, rect);
+        return compare_as::<A, A>(room, op, x, y, rect);
     }
     if y <= i128::from(i64::MAX) {
-        return compare_as::<A, i64>(alloc, op, x, y, rect);
+        return compare_as::<A, i64>(room, op, x, y, rect);
     }
-    compare_as::<A, u64>(alloc, op, x, y, rect)
+    compare_as::<A, u64>(room, op, x, y, rect)
 }
 
 // Whether the type has the number.
@@ -264,7 +263,7 @@ fn has_number<B: TileElem>(y: i128) -> bool
 // The truth values of a list and a number that a type has.
 #[tactic(auto, using(lg_elem::proofs::WrapLemmas::wrap_same))]
 fn compare_as<A: TileElem, B: TileElem>(
-    alloc: Global,
+    room: Room<'_>,
     op: Compare,
     x: &[A],
     y: i128,
@@ -277,7 +276,7 @@ fn compare_as<A: TileElem, B: TileElem>(
         ≡ listed (λ place. pos (from_bool (compare_of op (item_at A.number x.now place) y)))
         (volume_of rect.now)) }
 {
-    let mut tile = Tile::filled(alloc, rect, false)?;
+    let mut tile = room.tile(rect)?;
     compare_to(op, tile.items_mut(), x, element::<B>(y));
     Ok(tile)
 }
@@ -310,7 +309,7 @@ fn compare_to<A: TileElem, B: TileElem>(op: Compare, out: &mut [bool], x: &[A], 
 
 // Two numbers, which compare so at each index or at none.
 fn compare_numbers(
-    alloc: Global,
+    room: Room<'_>,
     op: Compare,
     x: i128,
     y: i128,
@@ -318,7 +317,7 @@ fn compare_numbers(
 ) -> Result<Tile<bool>, NoMemory>
     ensures { IfOk result (λ tile. IsTruths tile rect.now op (λ index. x) (λ index. y)) }
 {
-    Ok(Tile::filled(alloc, rect, holds(op, x, y))?)
+    Ok(Tile::filled(room.alloc(), rect, holds(op, x, y))?)
 }
 
 // Whether two numbers compare so.

@@ -18,12 +18,11 @@ use lg_elem::Flag;
 use lg_outside::NoMemory;
 use lg_shape::Shape;
 use lg_space::AnyRect;
-use lg_tile::{AnyTile, Tile, TileElem, by_type, section_of};
-use std::alloc::Global;
+use lg_tile::{AnyTile, Room, Tile, TileElem, by_type, section_of};
 
 /// An operand as elements of a known type.
 pub fn cast_tile<'a, T: TileElem>(
-    alloc: Global,
+    room: Room<'_>,
     x: &Operand,
     inputs: &'a [&'a AnyTile],
     rect: &AnyRect,
@@ -32,13 +31,13 @@ pub fn cast_tile<'a, T: TileElem>(
     ensures { IfOk result (Maps (ops.Cast x.now) T.DTYPE
         (map (λ input. input.now) inputs.now) rect.now) }
 {
-    let tile = cast_operand::<T>(alloc, x, inputs, rect)?;
+    let tile = cast_operand::<T>(room, x, inputs, rect)?;
     Ok((T::any(tile), Flag::Clear))
 }
 
 // An operand as elements of a known type, by its kind.
 fn cast_operand<'a, T: TileElem>(
-    alloc: Global,
+    room: Room<'_>,
     x: &Operand,
     inputs: &'a [&'a AnyTile],
     rect: &AnyRect,
@@ -48,14 +47,14 @@ fn cast_operand<'a, T: TileElem>(
         (operand_at (map (λ input. input.now) inputs.now) x.now)) }
 {
     match x {
-        Operand::Input(k) => Ok(cast_part::<T>(alloc, input(inputs, *k, rect), rect)?),
-        Operand::Constant(x) => Ok(filled::<T>(alloc, *x, rect)?),
+        Operand::Input(k) => Ok(cast_part::<T>(room, input(inputs, *k, rect), rect)?),
+        Operand::Constant(x) => Ok(filled::<T>(room, *x, rect)?),
     }
 }
 
 // A part of a tile as elements of a known type.
 fn cast_part<T: TileElem>(
-    alloc: Global,
+    room: Room<'_>,
     tile: &AnyTile,
     rect: &AnyRect,
 ) -> Result<Tile<T>, NoMemory>
@@ -63,12 +62,12 @@ fn cast_part<T: TileElem>(
     ensures { IfOk result
         (λ cast. IsCast T.DTYPE T.number cast rect.now (number_at tile.now)) }
 {
-    by_type!(tile.dtype(), cast_typed::<_, T>(alloc, tile, rect))
+    by_type!(tile.dtype(), cast_typed::<_, T>(room, tile, rect))
 }
 
 // A part of a tile of one known type as elements of another.
 fn cast_typed<A: TileElem, T: TileElem>(
-    alloc: Global,
+    room: Room<'_>,
     tile: &AnyTile,
     rect: &AnyRect,
 ) -> Result<Tile<T>, NoMemory>
@@ -77,32 +76,32 @@ fn cast_typed<A: TileElem, T: TileElem>(
     ensures { IfOk result
         (λ cast. IsCast T.DTYPE T.number cast rect.now (number_at tile.now)) }
 {
-    let part = part_of::<A>(alloc, tile, rect)?;
-    Ok(cast_items::<A, T>(alloc, part.items(), rect)?)
+    let part = part_of::<A>(room.alloc(), tile, rect)?;
+    Ok(cast_items::<A, T>(room, part.items(), rect)?)
 }
 
 /// The same number at each index, as elements of a known type.
 pub fn fill_tile<T: TileElem>(
-    alloc: Global,
+    room: Room<'_>,
     x: i128,
     rect: &AnyRect,
 ) -> Result<(AnyTile, Flag), NoMemory>
     ensures { IfOk result (Maps (ops.Fill x) T.DTYPE [] rect.now) }
 {
-    let tile = filled::<T>(alloc, x, rect)?;
+    let tile = filled::<T>(room, x, rect)?;
     Ok((T::any(tile), Flag::Clear))
 }
 
 // A typed tile with the element of a number at each index.
-fn filled<T: TileElem>(alloc: Global, x: i128, rect: &AnyRect) -> Result<Tile<T>, NoMemory>
+fn filled<T: TileElem>(room: Room<'_>, x: i128, rect: &AnyRect) -> Result<Tile<T>, NoMemory>
     ensures { IfOk result (λ tile. IsCast T.DTYPE T.number tile rect.now (λ index. x)) }
 {
-    Ok(Tile::filled(alloc, rect, T::wrap(x))?)
+    Ok(Tile::filled(room.alloc(), rect, T::wrap(x))?)
 }
 
 /// The numbers from this one on over one axis, as elements of a known type.
 pub fn count_tile<T: TileElem>(
-    alloc: Global,
+    room: Room<'_>,
     first: i128,
     rect: &AnyRect,
 ) -> Result<(AnyTile, Flag), NoMemory>
@@ -111,13 +110,13 @@ pub fn count_tile<T: TileElem>(
     ensures { IfOk result (Maps (ops.Count first) T.DTYPE [] rect.now) }
 {
     let (low, _) = rect.range(0);
-    let tile = count_from::<T>(alloc, first, low, rect)?;
+    let tile = count_from::<T>(room, first, low, rect)?;
     Ok((T::any(tile), Flag::Clear))
 }
 
 // The numbers from the one on that comes so many behind this one, place by place.
 fn count_from<T: TileElem>(
-    alloc: Global,
+    room: Room<'_>,
     first: i128,
     low: u64,
     rect: &AnyRect,
@@ -127,14 +126,14 @@ fn count_from<T: TileElem>(
     ensures items { IfOk result (λ tile. map T.number (tile_items tile)
         ≡ listed (λ place. wrap T.DTYPE ((first +ℤ pos low) +ℤ pos place)) (volume_of rect.now)) }
 {
-    let mut tile = Tile::filled(alloc, rect, T::wrap(0))?;
+    let mut tile = room.tile(rect)?;
     counted::<T>(tile.items_mut(), first, low);
     Ok(tile)
 }
 
 /// The numbers of an array over a part of its shape, as elements of a known type.
 pub fn list_tile<T: TileElem>(
-    alloc: Global,
+    room: Room<'_>,
     shape: &Shape,
     numbers: &[i128],
     rect: &AnyRect,
@@ -144,14 +143,14 @@ pub fn list_tile<T: TileElem>(
     requires covers { Covers (whole shape.now) rect.now }
     ensures { IfOk result (IsListed T.DTYPE shape.now numbers.now rect.now) }
 {
-    let part = section_of(alloc, numbers, &shape.whole(), rect)?;
-    let tile = wrap_each::<T>(alloc, part.items(), rect)?;
+    let part = section_of(room.alloc(), numbers, &shape.whole(), rect)?;
+    let tile = wrap_each::<T>(room, part.items(), rect)?;
     Ok((T::any(tile), Flag::Clear))
 }
 
 // A tile of the elements of a list of numbers.
 fn wrap_each<T: TileElem>(
-    alloc: Global,
+    room: Room<'_>,
     numbers: &[i128],
     rect: &AnyRect,
 ) -> Result<Tile<T>, NoMemory>
@@ -161,7 +160,7 @@ fn wrap_each<T: TileElem>(
         ≡ listed (λ place. wrap T.DTYPE (slice_index_or numbers.now place (pos 0)))
         (volume_of rect.now)) }
 {
-    let mut tile = Tile::filled(alloc, rect, T::wrap(0))?;
+    let mut tile = room.tile(rect)?;
     wrapped::<T>(tile.items_mut(), numbers);
     Ok(tile)
 }

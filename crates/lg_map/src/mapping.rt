@@ -17,15 +17,15 @@ use lg_elem::{Binary, DType, Flag, Unary};
 use lg_outside::NoMemory;
 use lg_shape::Shape;
 use lg_space::AnyRect;
-use lg_tile::{AnyTile, by_type};
-use std::alloc::Global;
+use lg_tile::{AnyTile, Room, by_type};
 
 /// The tile over a rectangle that an elementwise operation gives, with elements of type `t`, and
 /// the operation's flag: the first in row-major order that is not `Clear`, if there is one. Where
 /// the flag of an index is not `Clear` its element is 0. Inputs are read at the indices of the
-/// rectangle alone. The only error is that there is no memory.
+/// rectangle alone. The tile's elements take the room that is given. The only error is that there is
+/// no memory.
 pub fn map_tile(
-    alloc: Global,
+    room: Room<'_>,
     op: &MapOp,
     inputs: &[&AnyTile],
     rect: &AnyRect,
@@ -35,20 +35,20 @@ pub fn map_tile(
     ensures { IfOk result (Maps op.now t (map (λ input. input.now) inputs.now) rect.now) }
 {
     match op {
-        MapOp::Unary(op, x) => Ok(unary(alloc, *op, x, inputs, rect, t)?),
-        MapOp::Binary(op, x, y) => Ok(binary(alloc, *op, x, y, inputs, rect, t)?),
-        MapOp::Compare(op, x, y) => Ok(compare_tile(alloc, *op, x, y, inputs, rect)?),
-        MapOp::Select(choice, x, y) => Ok(select(alloc, choice, x, y, inputs, rect, t)?),
-        MapOp::Cast(x) => Ok(cast(alloc, x, inputs, rect, t)?),
-        MapOp::Fill(x) => Ok(fill(alloc, *x, rect, t)?),
-        MapOp::Count(first) => Ok(count(alloc, *first, rect, t)?),
-        MapOp::List(shape, numbers) => Ok(list(alloc, shape, numbers.as_slice(), rect, t)?),
+        MapOp::Unary(op, x) => Ok(unary(room, *op, x, inputs, rect, t)?),
+        MapOp::Binary(op, x, y) => Ok(binary(room, *op, x, y, inputs, rect, t)?),
+        MapOp::Compare(op, x, y) => Ok(compare_tile(room, *op, x, y, inputs, rect)?),
+        MapOp::Select(choice, x, y) => Ok(select(room, choice, x, y, inputs, rect, t)?),
+        MapOp::Cast(x) => Ok(cast(room, x, inputs, rect, t)?),
+        MapOp::Fill(x) => Ok(fill(room, *x, rect, t)?),
+        MapOp::Count(first) => Ok(count(room, *first, rect, t)?),
+        MapOp::List(shape, numbers) => Ok(list(room, shape, numbers.as_slice(), rect, t)?),
     }
 }
 
 // Picks the result's type.
 fn unary<'a>(
-    alloc: Global,
+    room: Room<'_>,
     op: Unary,
     x: &Operand,
     inputs: &'a [&'a AnyTile],
@@ -59,12 +59,12 @@ fn unary<'a>(
     ensures { IfOk result
         (Maps (ops.Unary op x.now) t (map (λ input. input.now) inputs.now) rect.now) }
 {
-    by_type!(t, unary_tile::<_>(alloc, op, x, inputs, rect))
+    by_type!(t, unary_tile::<_>(room, op, x, inputs, rect))
 }
 
 // Picks the result's type.
 fn binary<'a>(
-    alloc: Global,
+    room: Room<'_>,
     op: Binary,
     x: &Operand,
     y: &Operand,
@@ -77,12 +77,12 @@ fn binary<'a>(
     ensures { IfOk result
         (Maps (ops.Binary op x.now y.now) t (map (λ input. input.now) inputs.now) rect.now) }
 {
-    by_type!(t, binary_tile::<_>(alloc, op, x, y, inputs, rect))
+    by_type!(t, binary_tile::<_>(room, op, x, y, inputs, rect))
 }
 
 // Picks the result's type.
 fn select<'a>(
-    alloc: Global,
+    room: Room<'_>,
     choice: &Operand,
     x: &Operand,
     y: &Operand,
@@ -96,12 +96,12 @@ fn select<'a>(
     ensures { IfOk result (Maps (ops.Select choice.now x.now y.now) t
         (map (λ input. input.now) inputs.now) rect.now) }
 {
-    by_type!(t, select_tile::<_>(alloc, choice, x, y, inputs, rect))
+    by_type!(t, select_tile::<_>(room, choice, x, y, inputs, rect))
 }
 
 // Picks the result's type.
 fn cast<'a>(
-    alloc: Global,
+    room: Room<'_>,
     x: &Operand,
     inputs: &'a [&'a AnyTile],
     rect: &AnyRect,
@@ -111,28 +111,28 @@ fn cast<'a>(
     ensures { IfOk result
         (Maps (ops.Cast x.now) t (map (λ input. input.now) inputs.now) rect.now) }
 {
-    by_type!(t, cast_tile::<_>(alloc, x, inputs, rect))
+    by_type!(t, cast_tile::<_>(room, x, inputs, rect))
 }
 
 // Picks the result's type.
-fn fill(alloc: Global, x: i128, rect: &AnyRect, t: DType) -> Result<(AnyTile, Flag), NoMemory>
+fn fill(room: Room<'_>, x: i128, rect: &AnyRect, t: DType) -> Result<(AnyTile, Flag), NoMemory>
     ensures { IfOk result (Maps (ops.Fill x) t [] rect.now) }
 {
-    by_type!(t, fill_tile::<_>(alloc, x, rect))
+    by_type!(t, fill_tile::<_>(room, x, rect))
 }
 
 // Picks the result's type.
-fn count(alloc: Global, first: i128, rect: &AnyRect, t: DType) -> Result<(AnyTile, Flag), NoMemory>
+fn count(room: Room<'_>, first: i128, rect: &AnyRect, t: DType) -> Result<(AnyTile, Flag), NoMemory>
     requires number { IsConstant first }
     requires one { length rect.now ≡ 1 }
     ensures { IfOk result (Maps (ops.Count first) t [] rect.now) }
 {
-    by_type!(t, count_tile::<_>(alloc, first, rect))
+    by_type!(t, count_tile::<_>(room, first, rect))
 }
 
 // Picks the result's type.
 fn list(
-    alloc: Global,
+    room: Room<'_>,
     shape: &Shape,
     numbers: &[i128],
     rect: &AnyRect,
@@ -143,5 +143,5 @@ fn list(
     requires covers { Covers (whole shape.now) rect.now }
     ensures { IfOk result (IsListed t shape.now numbers.now rect.now) }
 {
-    by_type!(t, list_tile::<_>(alloc, shape, numbers, rect))
+    by_type!(t, list_tile::<_>(room, shape, numbers, rect))
 }

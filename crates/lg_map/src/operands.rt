@@ -13,7 +13,7 @@ use crate::columns::Values;
 use crate::loops::converted;
 use lg_outside::NoMemory;
 use lg_space::AnyRect;
-use lg_tile::{AnyTile, Section, Tile, TileElem, each};
+use lg_tile::{AnyTile, Room, Section, Tile, TileElem, each};
 use std::alloc::Global;
 
 /// The tile of an input.
@@ -102,13 +102,13 @@ fn cast<'a, A: TileElem, T: TileElem>(
         (λ values. Stands T.DTYPE T.number values rect.now (typed_at A.number tile.now)) }
 {
     let section = tile.section(alloc, rect)?;
-    let items = cast_items::<A, T>(alloc, section.items(), rect)?.into_items();
+    let items = cast_items::<A, T>(Room::new(alloc), section.items(), rect)?.into_items();
     Ok(Values::Items(Section::Copied(items)))
 }
 
 /// A tile of the elements of a list over its rectangle, as ones of another type.
 pub fn cast_items<A: TileElem, T: TileElem>(
-    alloc: Global,
+    room: Room<'_>,
     items: &[A],
     rect: &AnyRect,
 ) -> Result<Tile<T>, NoMemory>
@@ -117,7 +117,7 @@ pub fn cast_items<A: TileElem, T: TileElem>(
     ensures items { IfOk result (λ tile. map T.number (tile_items tile)
         ≡ listed (λ place. wrap T.DTYPE (item_at A.number items.now place)) (volume_of rect.now)) }
 {
-    let mut tile = Tile::filled(alloc, rect, T::wrap(0))?;
+    let mut tile = room.tile(rect)?;
     cast_each(tile.items_mut(), items);
     Ok(tile)
 }

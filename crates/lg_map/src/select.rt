@@ -16,12 +16,11 @@ use crate::operands::operand;
 use lg_elem::Flag;
 use lg_outside::NoMemory;
 use lg_space::AnyRect;
-use lg_tile::{AnyTile, Tile, TileElem};
-use std::alloc::Global;
+use lg_tile::{AnyTile, Room, Tile, TileElem};
 
 /// The first operand where the choice is not 0, else the second, as elements of a known type.
 pub fn select_tile<'a, T: TileElem>(
-    alloc: Global,
+    room: Room<'_>,
     choice: &Operand,
     x: &Operand,
     y: &Operand,
@@ -34,16 +33,16 @@ pub fn select_tile<'a, T: TileElem>(
     ensures { IfOk result (Maps (ops.Select choice.now x.now y.now) T.DTYPE
         (map (λ input. input.now) inputs.now) rect.now) }
 {
-    let choice = operand::<bool>(alloc, inputs, choice, rect)?;
-    let x = operand::<T>(alloc, inputs, x, rect)?;
-    let y = operand::<T>(alloc, inputs, y, rect)?;
-    let tile = selected(alloc, &choice, &x, &y, rect)?;
+    let choice = operand::<bool>(room.alloc(), inputs, choice, rect)?;
+    let x = operand::<T>(room.alloc(), inputs, x, rect)?;
+    let y = operand::<T>(room.alloc(), inputs, y, rect)?;
+    let tile = selected(room, &choice, &x, &y, rect)?;
     Ok((T::any(tile), Flag::Clear))
 }
 
 // The tile of the results.
 fn selected<T: TileElem>(
-    alloc: Global,
+    room: Room<'_>,
     choice: &Values<bool>,
     x: &Values<T>,
     y: &Values<T>,
@@ -59,7 +58,7 @@ fn selected<T: TileElem>(
         then wrap T.DTYPE (number_in T.number y.now place)
         else wrap T.DTYPE (number_in T.number x.now place)) (volume_of rect.now)) }
 {
-    let mut tile = Tile::filled(alloc, rect, T::wrap(0))?;
+    let mut tile = room.tile(rect)?;
     select(tile.items_mut(), choice, x, y);
     Ok(tile)
 }

@@ -9,7 +9,7 @@ use crate::{MapOp, Operand, map_tile};
 use lg_elem::{Binary, Compare, DType, Flag, Unary};
 use lg_shape::Shape;
 use lg_space::{AnyRect, Point};
-use lg_tile::{AnyTile, Tile, TileElem};
+use lg_tile::{AnyTile, Room, Tile, TileElem};
 use sqlite_items::Items;
 use std::alloc::Global;
 use std::process::Abort;
@@ -37,7 +37,7 @@ fn runs(
 ) -> Result<(), Fail>
     requires { IsMap op.now [] ((3, 6) ∷ []) t }
 {
-    let (tile, found) = map_tile(alloc, op, &[], &AnyRect::new(&[(3, 6)]), t)?;
+    let (tile, found) = map_tile(Room::new(alloc), op, &[], &AnyRect::new(&[(3, 6)]), t)?;
     assert_eq!(rt; found, flag);
     holds(rt, &tile, t, 3, expected);
     Ok(())
@@ -133,7 +133,13 @@ fn over_rows<A: TileElem, B: TileElem>(
         → IsOperand tiles ((11, 13) ∷ []) (Input 1) → IsMap op.now tiles ((11, 13) ∷ []) t }
 {
     let (x, y) = (row(alloc, x)?, row(alloc, y)?);
-    let (tile, found) = map_tile(alloc, op, &[&x, &y], &AnyRect::new(&[(11, 13)]), t)?;
+    let (tile, found) = map_tile(
+        Room::new(alloc),
+        op,
+        &[&x, &y],
+        &AnyRect::new(&[(11, 13)]),
+        t,
+    )?;
     assert_eq!(rt; found, flag);
     holds(rt, &tile, t, 11, expected);
     Ok(())
@@ -286,7 +292,13 @@ fn tiles_of_two_types(rt: HostRuntime) -> Result<(), Fail> {
 fn list_in_row_major_order(rt: HostRuntime) -> Result<(), Fail> {
     let alloc = rt.alloc();
     let list = MapOp::List(Shape::new(&[3]), Items::from_slice(alloc, &[5, 300, -1])?);
-    let (tile, flag) = map_tile(alloc, &list, &[], &AnyRect::new(&[(1, 3)]), DType::UInt8)?;
+    let (tile, flag) = map_tile(
+        Room::new(alloc),
+        &list,
+        &[],
+        &AnyRect::new(&[(1, 3)]),
+        DType::UInt8,
+    )?;
     assert_eq!(rt; flag, Flag::Clear);
     holds(&rt, &tile, DType::UInt8, 1, &[44, 255]);
     Ok(())

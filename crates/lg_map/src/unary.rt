@@ -16,12 +16,11 @@ use lg_elem::kernels::{Abs, Invert, Neg, UnaryKernel};
 use lg_elem::{Flag, Unary};
 use lg_outside::NoMemory;
 use lg_space::AnyRect;
-use lg_tile::{AnyTile, Tile, TileElem};
-use std::alloc::Global;
+use lg_tile::{AnyTile, Room, Tile, TileElem};
 
 /// The operation on one operand, with results of a known type.
 pub fn unary_tile<'a, T: TileElem>(
-    alloc: Global,
+    room: Room<'_>,
     op: Unary,
     x: &Operand,
     inputs: &'a [&'a AnyTile],
@@ -31,14 +30,14 @@ pub fn unary_tile<'a, T: TileElem>(
     ensures { IfOk result (Maps (ops.Unary op x.now) T.DTYPE
         (map (λ input. input.now) inputs.now) rect.now) }
 {
-    let x = operand::<T>(alloc, inputs, x, rect)?;
-    let tile = applied(alloc, op, &x, rect)?;
+    let x = operand::<T>(room.alloc(), inputs, x, rect)?;
+    let tile = applied(room, op, &x, rect)?;
     Ok((T::any(tile), Flag::Clear))
 }
 
 // The tile of the results.
 fn applied<T: TileElem>(
-    alloc: Global,
+    room: Room<'_>,
     op: Unary,
     x: &Values<T>,
     rect: &AnyRect,
@@ -49,7 +48,7 @@ fn applied<T: TileElem>(
         ≡ listed (λ place. unary_of op T.DTYPE (wrap T.DTYPE (number_in T.number x.now place)))
         (volume_of rect.now)) }
 {
-    let mut tile = Tile::filled(alloc, rect, T::wrap(0))?;
+    let mut tile = room.tile(rect)?;
     apply(op, tile.items_mut(), x);
     Ok(tile)
 }

@@ -17,8 +17,7 @@ use lg_meaning::FaultKind;
 use lg_promote::laws::common_is_least;
 use lg_shape::Shape;
 use lg_store::Right;
-use lg_tile::AnyTile;
-use std::alloc::Global;
+use lg_tile::{AnyTile, Room};
 
 // The fault of a flag.
 fn fault_of(flag: Flag) -> Option<FaultKind>
@@ -61,7 +60,7 @@ fn result_of(tile: AnyTile, shape: &Shape, fault: Option<FaultKind>) -> Fresh
 ///
 /// The first static fault, and `NoMemory`. A fault of elements is told beside the array.
 pub fn binary<'a>(
-    alloc: Global,
+    room: Room<'_>,
     pieces: u32,
     op: Binary,
     a: &Operand<'a>,
@@ -83,7 +82,7 @@ pub fn binary<'a>(
         second,
         third: Lent::Number(0),
     };
-    let (tile, flag) = evaluate(alloc, pieces, &map, &inputs, &shape, t)?;
+    let (tile, flag) = evaluate(room, pieces, &map, &inputs, &shape, t)?;
     Ok(result_of(tile, &shape, first_fault(a, b, fault_of(flag))))
 }
 
@@ -94,7 +93,7 @@ pub fn binary<'a>(
 ///
 /// The first static fault, and `NoMemory`. A fault of elements is told beside the array.
 pub fn compare<'a>(
-    alloc: Global,
+    room: Room<'_>,
     pieces: u32,
     op: Compare,
     a: &Operand<'a>,
@@ -116,7 +115,7 @@ pub fn compare<'a>(
         second,
         third: Lent::Number(0),
     };
-    let (tile, _) = evaluate(alloc, pieces, &map, &inputs, &shape, t)?;
+    let (tile, _) = evaluate(room, pieces, &map, &inputs, &shape, t)?;
     Ok(result_of(tile, &shape, first_fault(a, b, None)))
 }
 
@@ -125,7 +124,7 @@ pub fn compare<'a>(
 /// # Errors
 ///
 /// The first static fault, and `NoMemory`. A fault of elements is told beside the array.
-pub fn unary(alloc: Global, pieces: u32, op: Unary, a: &Operand<'_>) -> Result<Fresh, EvaluateEnd>
+pub fn unary(room: Room<'_>, pieces: u32, op: Unary, a: &Operand<'_>) -> Result<Fresh, EvaluateEnd>
     requires some { 1 ≤ pieces }
     requires few { pieces ≤ 64 }
     requires ready { IsReady a.now }
@@ -139,7 +138,7 @@ pub fn unary(alloc: Global, pieces: u32, op: Unary, a: &Operand<'_>) -> Result<F
         second: Lent::Number(0),
         third: Lent::Number(0),
     };
-    let (tile, _) = evaluate(alloc, pieces, &map, &inputs, &shape, t)?;
+    let (tile, _) = evaluate(room, pieces, &map, &inputs, &shape, t)?;
     Ok(result_of(tile, &shape, a.fault()))
 }
 
@@ -150,7 +149,7 @@ pub fn unary(alloc: Global, pieces: u32, op: Unary, a: &Operand<'_>) -> Result<F
 ///
 /// The first static fault, and `NoMemory`. A fault of elements is told beside the array.
 pub fn choose<'a>(
-    alloc: Global,
+    room: Room<'_>,
     pieces: u32,
     c: &Operand<'a>,
     a: &Operand<'a>,
@@ -175,7 +174,7 @@ pub fn choose<'a>(
         second,
         third,
     };
-    let (tile, _) = evaluate(alloc, pieces, &map, &inputs, &shape, t)?;
+    let (tile, _) = evaluate(room, pieces, &map, &inputs, &shape, t)?;
     Ok(result_of(tile, &shape, first_fault(c, a, b.fault())))
 }
 
@@ -186,7 +185,7 @@ pub fn choose<'a>(
 /// # Errors
 ///
 /// The first static fault, and `NoMemory`. A fault of elements is told beside the array.
-pub fn as_type(alloc: Global, pieces: u32, a: &Operand<'_>, t: DType) -> Result<Fresh, EvaluateEnd>
+pub fn as_type(room: Room<'_>, pieces: u32, a: &Operand<'_>, t: DType) -> Result<Fresh, EvaluateEnd>
     requires some { 1 ≤ pieces }
     requires few { pieces ≤ 64 }
     requires ready { IsReady a.now }
@@ -201,7 +200,7 @@ pub fn as_type(alloc: Global, pieces: u32, a: &Operand<'_>, t: DType) -> Result<
         second: Lent::Number(0),
         third: Lent::Number(0),
     };
-    let (tile, _) = evaluate(alloc, pieces, &map, &inputs, &shape, t)?;
+    let (tile, _) = evaluate(room, pieces, &map, &inputs, &shape, t)?;
     Ok(Fresh {
         tile,
         right: Right::Writable,

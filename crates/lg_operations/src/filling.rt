@@ -31,8 +31,7 @@ use lg_outside::NoMemory;
 use lg_promote::same_kind;
 use lg_shape::Shape;
 use lg_store::{Right, View};
-use lg_tile::AnyTile;
-use std::alloc::Global;
+use lg_tile::{AnyTile, Room};
 
 /// What a target of this type and shape takes of an operand.
 ///
@@ -41,7 +40,7 @@ use std::alloc::Global;
 /// `Range` where a weak number does not fit the type, then `Shape` where the operand does not fill
 /// the shape, and `NoMemory`.
 pub fn taken(
-    alloc: Global,
+    room: Room<'_>,
     pieces: u32,
     a: &Operand<'_>,
     t: DType,
@@ -56,7 +55,7 @@ pub fn taken(
 {
     rule_of_taking(a, t, shape)?;
     let padded = padded(&shape_of(a), shape);
-    let tile = cast(alloc, pieces, a, t, &padded)?;
+    let tile = cast(room, pieces, a, t, &padded)?;
     Ok(Fresh {
         tile: in_shape(tile, shape),
         right: Right::Writable,
@@ -70,7 +69,7 @@ pub fn taken(
 ///
 /// `Shape` where the array does not fill the shape, and `NoMemory`.
 pub fn taken_fresh(
-    alloc: Global,
+    room: Room<'_>,
     pieces: u32,
     fresh: Fresh,
     t: DType,
@@ -92,7 +91,7 @@ pub fn taken_fresh(
         right: fresh.right,
         fault: fresh.fault,
     };
-    taken(alloc, pieces, &operand, t, shape)
+    taken(room, pieces, &operand, t, shape)
 }
 
 /// Whether an array that an operation made of a view can be written to the view.
@@ -195,7 +194,7 @@ fn padded(own: &Shape, shape: &Shape) -> Shape
 
 // The elements of an operand over a shape to which it can be repeated, as elements of a type.
 fn cast(
-    alloc: Global,
+    room: Room<'_>,
     pieces: u32,
     a: &Operand<'_>,
     t: DType,
@@ -218,6 +217,6 @@ fn cast(
         second: Lent::Number(0),
         third: Lent::Number(0),
     };
-    let (tile, _) = evaluate(alloc, pieces, &map, &inputs, shape, t)?;
+    let (tile, _) = evaluate(room, pieces, &map, &inputs, shape, t)?;
     Ok(tile)
 }

@@ -13,13 +13,13 @@ ghost use Rattle.lg_operations.specs.Gathering.{AllLie, AreRows, IsGathered, num
 use lg_outside::NoMemory;
 use lg_shape::Shape;
 use lg_space::AnyRect;
-use lg_tile::{AnyTile, Tile, TileElem, each};
+use lg_tile::{AnyTile, Room, Tile, TileElem, each};
 use lg_xform::Chain;
-use std::alloc::{AllocError, Global};
+use std::alloc::AllocError;
 
 /// The elements of a view of a root whose elements are a tile, in row-major order of the view's
 /// indices. Those of a whole root are copied at once.
-pub fn gather(alloc: Global, tile: &AnyTile, chain: &Chain) -> Result<AnyTile, NoMemory>
+pub fn gather(room: Room<'_>, tile: &AnyTile, chain: &Chain) -> Result<AnyTile, NoMemory>
     requires root { rect_of tile.now ≡ whole (root_of chain.now) }
     requires small { size_of (shape_of chain.now) ≤ MAX_VOLUME }
     ensures dtype { IfOk result (λ out. dtype_of out ≡ dtype_of tile.now) }
@@ -30,15 +30,15 @@ pub fn gather(alloc: Global, tile: &AnyTile, chain: &Chain) -> Result<AnyTile, N
     // What is known of every rectangle, its limits, is told with its ranges.
     let _limits = tile.rect().ranges();
     if is_whole(chain) {
-        return tile.copied(alloc);
+        return tile.copied(room);
     }
     let all = chain.shape().whole();
-    gather_part(alloc, tile, chain, &all)
+    gather_part(room, tile, chain, &all)
 }
 
 /// The elements of such a view at the indices of a rectangle, as a tile of the rectangle.
 pub fn gather_part(
-    alloc: Global,
+    room: Room<'_>,
     tile: &AnyTile,
     chain: &Chain,
     rect: &AnyRect,
@@ -50,7 +50,7 @@ pub fn gather_part(
     ensures numbers { IfOk result (λ out. (index : List ℕ) → IsIn rect.now index
         → number_at out index ≡ seen_at tile.now chain.now index) }
 {
-    each!(tile, tile => gather_typed(alloc, tile, chain, rect))
+    each!(tile, tile => gather_typed(room, tile, chain, rect))
 }
 
 /// Whether a view is the whole of its root, index for index. `false` may be said of one whose
@@ -107,7 +107,7 @@ fn is_row(extent: u64, stride: i64, size: u64) -> bool
 }
 
 fn gather_typed<T: TileElem>(
-    alloc: Global,
+    room: Room<'_>,
     tile: &Tile<T>,
     chain: &Chain,
     rect: &AnyRect,
@@ -119,7 +119,7 @@ fn gather_typed<T: TileElem>(
     ensures numbers { IfOk result (λ out. (index : List ℕ) → IsIn rect.now index
         → number_at out index ≡ number_through (map T.number (tile_items tile.now)) chain.now index) }
 {
-    let mut items: Vec<T> = Vec::with_capacity(alloc, rect.volume() as usize)?;
+    let mut items: Vec<T> = room.none_of(rect.volume() as usize)?;
     append_part(&mut items, tile, chain, rect)?;
     Ok(T::any(Tile::new(*rect, items)))
 }

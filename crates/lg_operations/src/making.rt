@@ -19,6 +19,7 @@ use lg_elem::DType;
 use lg_map::MapOp;
 use lg_shape::Shape;
 use lg_store::Right;
+use lg_tile::Room;
 use sqlite_items::Items;
 use std::alloc::{AllocError, Global};
 
@@ -30,7 +31,7 @@ use std::alloc::{AllocError, Global};
 /// `Range` where the number does not fit the type, then `Shape` where an extent is below 0 or there
 /// are too many axes, then `Limit`; and `NoMemory`.
 pub fn full(
-    alloc: Global,
+    room: Room<'_>,
     pieces: u32,
     extents: &[i128],
     x: Weak,
@@ -43,7 +44,7 @@ pub fn full(
         (filled (number_of (weak_of x))) result }
 {
     let (t, shape) = rule_of_full(extents, x, dtype)?;
-    evaluate_new(alloc, pieces, &MapOp::Fill(number(x)), &shape, t)
+    evaluate_new(room, pieces, &MapOp::Fill(number(x)), &shape, t)
 }
 
 /// An array of these extents with 0 everywhere, of int64 where no type is written (NumPy's
@@ -53,7 +54,7 @@ pub fn full(
 ///
 /// `Shape` where an extent is below 0 or there are too many axes, then `Limit`; and `NoMemory`.
 pub fn zeros(
-    alloc: Global,
+    room: Room<'_>,
     pieces: u32,
     extents: &[i128],
     dtype: Option<DType>,
@@ -63,7 +64,7 @@ pub fn zeros(
     ensures { IsMade (shaped (type_or dtype Int64) extents.now) (filled (pos 0)) result }
 {
     let (t, shape) = shaped(type_or(dtype, DType::Int64), extents)?;
-    evaluate_new(alloc, pieces, &MapOp::Fill(0), &shape, t)
+    evaluate_new(room, pieces, &MapOp::Fill(0), &shape, t)
 }
 
 /// The same with 1 everywhere (NumPy's reference, "numpy.ones").
@@ -72,7 +73,7 @@ pub fn zeros(
 ///
 /// `Shape` where an extent is below 0 or there are too many axes, then `Limit`; and `NoMemory`.
 pub fn ones(
-    alloc: Global,
+    room: Room<'_>,
     pieces: u32,
     extents: &[i128],
     dtype: Option<DType>,
@@ -82,7 +83,7 @@ pub fn ones(
     ensures { IsMade (shaped (type_or dtype Int64) extents.now) (filled (pos 1)) result }
 {
     let (t, shape) = shaped(type_or(dtype, DType::Int64), extents)?;
-    evaluate_new(alloc, pieces, &MapOp::Fill(1), &shape, t)
+    evaluate_new(room, pieces, &MapOp::Fill(1), &shape, t)
 }
 
 /// The numbers from one up to another, which is no longer among them (NumPy's reference,
@@ -93,7 +94,7 @@ pub fn ones(
 /// `TypeKind` for bool, `Range` where the first or the last number does not fit the type, then
 /// `Limit`; and `NoMemory`.
 pub fn counted(
-    alloc: Global,
+    room: Room<'_>,
     pieces: u32,
     from: i128,
     to: i128,
@@ -106,7 +107,7 @@ pub fn counted(
     ensures { IsMade (arange_static from to dtype) (counted_from from) result }
 {
     let (t, shape) = rule_of_counted(from, to, dtype)?;
-    evaluate_new(alloc, pieces, &MapOp::Count(from), &shape, t)
+    evaluate_new(room, pieces, &MapOp::Count(from), &shape, t)
 }
 
 /// An array of these numbers, in row-major order of a shape (NumPy's reference, "numpy.array").
@@ -117,7 +118,7 @@ pub fn counted(
 ///
 /// `Range` where a number does not fit the type, then `Shape`, then `Limit`; and `NoMemory`.
 pub fn listed(
-    alloc: Global,
+    room: Room<'_>,
     pieces: u32,
     weaks: &[Weak],
     shape: Option<&[u64]>,
@@ -132,13 +133,13 @@ pub fn listed(
         (listed_as (map (λ w. number_of (weak_of w)) weaks.now)) result }
 {
     let (t, shape) = rule_of_listed(weaks, shape, dtype)?;
-    let numbers = Items::from_vec(numbers_of(alloc, weaks)?);
-    evaluate_new(alloc, pieces, &MapOp::List(shape, numbers), &shape, t)
+    let numbers = Items::from_vec(numbers_of(room.alloc(), weaks)?);
+    evaluate_new(room, pieces, &MapOp::List(shape, numbers), &shape, t)
 }
 
 // A new array of an operation without operands, which may be written.
 fn evaluate_new(
-    alloc: Global,
+    room: Room<'_>,
     pieces: u32,
     op: &MapOp,
     shape: &Shape,
@@ -155,7 +156,7 @@ fn evaluate_new(
         second: Lent::Number(0),
         third: Lent::Number(0),
     };
-    let (tile, _) = evaluate(alloc, pieces, op, &none, shape, t)?;
+    let (tile, _) = evaluate(room, pieces, op, &none, shape, t)?;
     Ok(Fresh {
         tile,
         right: Right::Writable,

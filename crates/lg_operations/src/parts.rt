@@ -7,7 +7,7 @@ use crate::gathering::gather_part;
 use crate::lending::Lent;
 use lg_outside::NoMemory;
 use lg_space::AnyRect;
-use lg_tile::{AnyTile, Tile};
+use lg_tile::{AnyTile, Room, Tile};
 use std::alloc::Global;
 
 /// The elements of an input over a rectangle.
@@ -30,18 +30,25 @@ impl Part<'_> {
             Part::Gathered(tile) => tile,
         }
     }
+
+    /// Gives the memory of what was gathered back.
+    pub fn give_back(self, room: Room<'_>) {
+        if let Part::Gathered(tile) = self {
+            room.keep(tile);
+        }
+    }
 }
 
 /// The elements of an input over a rectangle. Those of a view are gathered; in place of a number
 /// there is a tile that is not read.
-pub fn part_of<'a>(alloc: Global, lent: &Lent<'a>, rect: &AnyRect) -> Result<Part<'a>, NoMemory>
+pub fn part_of<'a>(room: Room<'_>, lent: &Lent<'a>, rect: &AnyRect) -> Result<Part<'a>, NoMemory>
     requires { IsLentOver rect.now lent.now }
     ensures { IfOk result (λ part. IsPartOf rect.now lent.now (part_tile part)) }
 {
     match lent {
-        Lent::Number(_) => Ok(Part::Gathered(nothing(alloc))),
+        Lent::Number(_) => Ok(Part::Gathered(nothing(room.alloc()))),
         Lent::Tile(tile) => Ok(Part::Lying(tile)),
-        Lent::Viewed(tile, chain) => Ok(Part::Gathered(gather_part(alloc, tile, chain, rect)?)),
+        Lent::Viewed(tile, chain) => Ok(Part::Gathered(gather_part(room, tile, chain, rect)?)),
     }
 }
 

@@ -18,7 +18,7 @@ use lg_elem::{Binary, Compare, DType, Elem, Unary};
 use lg_meaning::FaultKind;
 use lg_shape::Shape;
 use lg_store::Right;
-use lg_tile::{AnyTile, Tile, TileElem};
+use lg_tile::{AnyTile, Room, Tile, TileElem};
 use lg_tree::Arith;
 use std::alloc::Global;
 use std::process::Abort;
@@ -135,7 +135,7 @@ fn gives<T: TileElem>(
     requires second { IsReady b.now }
 {
     for k in 0..3 {
-        let made = binary(alloc, pieces(k), op, &*a, &*b);
+        let made = binary(Room::new(alloc), pieces(k), op, &*a, &*b);
         holds(
             rt,
             made,
@@ -306,7 +306,7 @@ fn shapes_that_broadcast(rt: HostRuntime) -> Result<(), Fail> {
     let sums = [11_i64, 21, 31, 12, 22, 32];
     for k in 0..3 {
         let made = binary(
-            alloc,
+            Room::new(alloc),
             pieces(k),
             Binary::Add,
             &array(&column),
@@ -314,7 +314,7 @@ fn shapes_that_broadcast(rt: HostRuntime) -> Result<(), Fail> {
         );
         holds(&rt, made, &[2, 3], Right::Writable, &sums, None);
         let made = binary(
-            alloc,
+            Room::new(alloc),
             pieces(k),
             Binary::Add,
             &array(&line),
@@ -330,9 +330,9 @@ fn scalars_and_empty_arrays(rt: HostRuntime) -> Result<(), Fail> {
     let alloc = rt.alloc();
     let (a, none) = (point(alloc, 3_i16)?, row::<i16>(alloc, &[])?);
     let zero = Operand::Weak(Weak::Integer(0));
-    let made = binary(alloc, 4, Binary::Add, &array(&a), &array(&a));
+    let made = binary(Room::new(alloc), 4, Binary::Add, &array(&a), &array(&a));
     holds(&rt, made, &[], Right::Scalar, &[6_i16], None);
-    let made = binary(alloc, 4, Binary::FloorDiv, &array(&a), &zero);
+    let made = binary(Room::new(alloc), 4, Binary::FloorDiv, &array(&a), &zero);
     holds(
         &rt,
         made,
@@ -343,7 +343,7 @@ fn scalars_and_empty_arrays(rt: HostRuntime) -> Result<(), Fail> {
     );
     let weak = Operand::Weak(Weak::Integer(3));
     let made = binary(
-        alloc,
+        Room::new(alloc),
         4,
         Binary::BitAnd,
         &weak,
@@ -377,31 +377,43 @@ fn faults_in_their_order(rt: HostRuntime) -> Result<(), Fail> {
     let (a, b) = (row(alloc, &[1_u64, 2])?, row(alloc, &[1_i8, 2, 3])?);
     refuses(
         &rt,
-        binary(alloc, 4, Binary::Add, &array(&a), &array(&b)),
+        binary(Room::new(alloc), 4, Binary::Add, &array(&a), &array(&b)),
         FaultKind::TypeKind,
     );
     let c = row(alloc, &[1_i64, 2])?;
     refuses(
         &rt,
-        binary(alloc, 4, Binary::Add, &array(&c), &array(&b)),
+        binary(Room::new(alloc), 4, Binary::Add, &array(&c), &array(&b)),
         FaultKind::Shape,
     );
     let high = Operand::Weak(Weak::Integer(128));
     refuses(
         &rt,
-        binary(alloc, 4, Binary::Add, &array(&b), &high),
+        binary(Room::new(alloc), 4, Binary::Add, &array(&b), &high),
         FaultKind::Range,
     );
     let truths = row(alloc, &[true, false])?;
     let power = Operand::Weak(Weak::Integer(9_223_372_036_854_775_808));
     refuses(
         &rt,
-        binary(alloc, 4, Binary::Add, &power, &array(&truths)),
+        binary(Room::new(alloc), 4, Binary::Add, &power, &array(&truths)),
         FaultKind::Range,
     );
-    let made = binary(alloc, 4, Binary::Sub, &array(&truths), &array(&truths));
+    let made = binary(
+        Room::new(alloc),
+        4,
+        Binary::Sub,
+        &array(&truths),
+        &array(&truths),
+    );
     refuses(&rt, made, FaultKind::TypeKind);
-    let made = choose(alloc, 4, &high, &Operand::Weak(Weak::Truth(true)), &power);
+    let made = choose(
+        Room::new(alloc),
+        4,
+        &high,
+        &Operand::Weak(Weak::Truth(true)),
+        &power,
+    );
     refuses(&rt, made, FaultKind::Range);
     Ok(())
 }
@@ -452,7 +464,13 @@ fn comparisons(rt: HostRuntime) -> Result<(), Fail> {
     let (a, b) = (row(alloc, &[u64::MAX, 0, 5])?, row(alloc, &[-1_i64, 1, 5])?);
     let high = Operand::Weak(Weak::Integer(18_446_744_073_709_551_615));
     for k in 0..3 {
-        let made = compare(alloc, pieces(k), Compare::Gt, &array(&a), &array(&b));
+        let made = compare(
+            Room::new(alloc),
+            pieces(k),
+            Compare::Gt,
+            &array(&a),
+            &array(&b),
+        );
         holds(
             &rt,
             made,
@@ -461,9 +479,15 @@ fn comparisons(rt: HostRuntime) -> Result<(), Fail> {
             &[true, false, false],
             None,
         );
-        let made = compare(alloc, pieces(k), Compare::Le, &array(&b), &array(&a));
+        let made = compare(
+            Room::new(alloc),
+            pieces(k),
+            Compare::Le,
+            &array(&b),
+            &array(&a),
+        );
         holds(&rt, made, &[3], Right::Writable, &[true, false, true], None);
-        let made = compare(alloc, pieces(k), Compare::Lt, &high, &array(&b));
+        let made = compare(Room::new(alloc), pieces(k), Compare::Lt, &high, &array(&b));
         holds(
             &rt,
             made,
@@ -472,7 +496,7 @@ fn comparisons(rt: HostRuntime) -> Result<(), Fail> {
             &[false, false, false],
             None,
         );
-        let made = compare(alloc, pieces(k), Compare::Eq, &array(&a), &high);
+        let made = compare(Room::new(alloc), pieces(k), Compare::Eq, &array(&a), &high);
         holds(
             &rt,
             made,
@@ -485,7 +509,7 @@ fn comparisons(rt: HostRuntime) -> Result<(), Fail> {
     let c = row(alloc, &[1_i64, 2])?;
     refuses(
         &rt,
-        compare(alloc, 4, Compare::Eq, &array(&a), &array(&c)),
+        compare(Room::new(alloc), 4, Compare::Eq, &array(&a), &array(&c)),
         FaultKind::Shape,
     );
     Ok(())
@@ -497,10 +521,10 @@ fn operations_on_one_operand(rt: HostRuntime) -> Result<(), Fail> {
     let (a, b) = (row(alloc, &[i8::MIN, 5])?, row(alloc, &[0_u8, 255])?);
     let truths = row(alloc, &[true, false])?;
     for k in 0..3 {
-        let made = unary(alloc, pieces(k), Unary::Abs, &array(&a));
+        let made = unary(Room::new(alloc), pieces(k), Unary::Abs, &array(&a));
         holds(&rt, made, &[2], Right::Writable, &[i8::MIN, 5], None);
         let made = unary(
-            alloc,
+            Room::new(alloc),
             pieces(k),
             Unary::Invert,
             &faulty(&b, Some(FaultKind::Power)),
@@ -513,17 +537,26 @@ fn operations_on_one_operand(rt: HostRuntime) -> Result<(), Fail> {
             &[255_u8, 0],
             Some(FaultKind::Power),
         );
-        let made = unary(alloc, pieces(k), Unary::Invert, &array(&truths));
+        let made = unary(Room::new(alloc), pieces(k), Unary::Invert, &array(&truths));
         holds(&rt, made, &[2], Right::Writable, &[false, true], None);
     }
     refuses(
         &rt,
-        unary(alloc, 4, Unary::Neg, &array(&truths)),
+        unary(Room::new(alloc), 4, Unary::Neg, &array(&truths)),
         FaultKind::TypeKind,
     );
     let weak = Operand::Weak(Weak::Integer(9_223_372_036_854_775_808));
-    refuses(&rt, unary(alloc, 4, Unary::Abs, &weak), FaultKind::Range);
-    let made = unary(alloc, 4, Unary::Invert, &Operand::Weak(Weak::Integer(5)));
+    refuses(
+        &rt,
+        unary(Room::new(alloc), 4, Unary::Abs, &weak),
+        FaultKind::Range,
+    );
+    let made = unary(
+        Room::new(alloc),
+        4,
+        Unary::Invert,
+        &Operand::Weak(Weak::Integer(5)),
+    );
     holds(&rt, made, &[], Right::Scalar, &[-6_i64], None);
     Ok(())
 }
@@ -538,15 +571,33 @@ fn one_of_two(rt: HostRuntime) -> Result<(), Fail> {
         row(alloc, &[7_u8, 8, 9])?,
     );
     for k in 0..3 {
-        let made = choose(alloc, pieces(k), &array(&c), &array(&a), &hundred);
+        let made = choose(
+            Room::new(alloc),
+            pieces(k),
+            &array(&c),
+            &array(&a),
+            &hundred,
+        );
         holds(&rt, made, &[3], Right::Writable, &[1_i8, 100, 3], None);
-        let made = choose(alloc, pieces(k), &array(&truths), &array(&a), &array(&b));
+        let made = choose(
+            Room::new(alloc),
+            pieces(k),
+            &array(&truths),
+            &array(&a),
+            &array(&b),
+        );
         holds(&rt, made, &[3], Right::Writable, &[1_i16, 8, 3], None);
-        let made = choose(alloc, pieces(k), &hundred, &array(&a), &array(&b));
+        let made = choose(
+            Room::new(alloc),
+            pieces(k),
+            &hundred,
+            &array(&a),
+            &array(&b),
+        );
         holds(&rt, made, &[3], Right::Writable, &[1_i16, 2, 3], None);
     }
     let made = choose(
-        alloc,
+        Room::new(alloc),
         4,
         &hundred,
         &Operand::Weak(Weak::Truth(true)),
@@ -563,16 +614,16 @@ fn filled_arrays(rt: HostRuntime) -> Result<(), Fail> {
     let alloc = rt.alloc();
     let (five, nine) = (Weak::Integer(5), Weak::Integer(9));
     for k in 0..3 {
-        let made = full(alloc, pieces(k), &[2], nine, None);
+        let made = full(Room::new(alloc), pieces(k), &[2], nine, None);
         holds(&rt, made, &[2], Right::Writable, &[9_i64, 9], None);
-        let made = full(alloc, pieces(k), &[3], five, Some(DType::Bool));
+        let made = full(Room::new(alloc), pieces(k), &[3], five, Some(DType::Bool));
         holds(&rt, made, &[3], Right::Writable, &[true, true, true], None);
-        let made = zeros(alloc, pieces(k), &[2, 2], Some(DType::Int8));
+        let made = zeros(Room::new(alloc), pieces(k), &[2, 2], Some(DType::Int8));
         holds(&rt, made, &[2, 2], Right::Writable, &[0_i8, 0, 0, 0], None);
-        let made = ones(alloc, pieces(k), &[], None);
+        let made = ones(Room::new(alloc), pieces(k), &[], None);
         holds(&rt, made, &[], Right::Writable, &[1_i64], None);
     }
-    let made = full(alloc, 4, &[2], Weak::Truth(false), None);
+    let made = full(Room::new(alloc), 4, &[2], Weak::Truth(false), None);
     holds(&rt, made, &[2], Right::Writable, &[false, false], None);
     Ok(())
 }
@@ -583,19 +634,31 @@ fn faults_of_filled_arrays(rt: HostRuntime) -> Result<(), Fail> {
     let high = Weak::Integer(300);
     refuses(
         &rt,
-        full(alloc, 4, &[-1], high, Some(DType::Int8)),
+        full(Room::new(alloc), 4, &[-1], high, Some(DType::Int8)),
         FaultKind::Range,
     );
-    refuses(&rt, full(alloc, 4, &[-1], high, None), FaultKind::Shape);
-    refuses(&rt, zeros(alloc, 4, &[16_777_217], None), FaultKind::Limit);
     refuses(
         &rt,
-        zeros(alloc, 4, &[16_777_217, 0], None),
+        full(Room::new(alloc), 4, &[-1], high, None),
+        FaultKind::Shape,
+    );
+    refuses(
+        &rt,
+        zeros(Room::new(alloc), 4, &[16_777_217], None),
         FaultKind::Limit,
     );
-    refuses(&rt, ones(alloc, 4, &[4_097, 4_096], None), FaultKind::Limit);
+    refuses(
+        &rt,
+        zeros(Room::new(alloc), 4, &[16_777_217, 0], None),
+        FaultKind::Limit,
+    );
+    refuses(
+        &rt,
+        ones(Room::new(alloc), 4, &[4_097, 4_096], None),
+        FaultKind::Limit,
+    );
     let made = ones(
-        alloc,
+        Room::new(alloc),
         4,
         &[16_777_216, 16_777_216, 16_777_216, 0],
         Some(DType::Bool),
@@ -615,32 +678,32 @@ fn faults_of_filled_arrays(rt: HostRuntime) -> Result<(), Fail> {
 fn counted_arrays(rt: HostRuntime) -> Result<(), Fail> {
     let alloc = rt.alloc();
     for k in 0..3 {
-        let made = counted(alloc, pieces(k), -2, 2, DType::Int8);
+        let made = counted(Room::new(alloc), pieces(k), -2, 2, DType::Int8);
         holds(&rt, made, &[4], Right::Writable, &[-2_i8, -1, 0, 1], None);
-        let made = counted(alloc, pieces(k), 300, 5, DType::Int8);
+        let made = counted(Room::new(alloc), pieces(k), 300, 5, DType::Int8);
         holds::<i8>(&rt, made, &[0], Right::Writable, &[], None);
     }
     let last = 18_446_744_073_709_551_615;
-    let made = counted(alloc, 4, last - 1, last, DType::UInt64);
+    let made = counted(Room::new(alloc), 4, last - 1, last, DType::UInt64);
     holds(&rt, made, &[1], Right::Writable, &[u64::MAX - 1], None);
     refuses(
         &rt,
-        counted(alloc, 4, 0, 129, DType::Int8),
+        counted(Room::new(alloc), 4, 0, 129, DType::Int8),
         FaultKind::Range,
     );
     refuses(
         &rt,
-        counted(alloc, 4, -1, 2, DType::UInt8),
+        counted(Room::new(alloc), 4, -1, 2, DType::UInt8),
         FaultKind::Range,
     );
     refuses(
         &rt,
-        counted(alloc, 4, 0, 1, DType::Bool),
+        counted(Room::new(alloc), 4, 0, 1, DType::Bool),
         FaultKind::TypeKind,
     );
     refuses(
         &rt,
-        counted(alloc, 4, 0, 16_777_217, DType::Int64),
+        counted(Room::new(alloc), 4, 0, 16_777_217, DType::Int64),
         FaultKind::Limit,
     );
     Ok(())
@@ -657,10 +720,10 @@ fn listed_arrays(rt: HostRuntime) -> Result<(), Fail> {
     ];
     let truths = [Weak::Truth(true), Weak::Truth(false)];
     for k in 0..3 {
-        let made = listed(alloc, pieces(k), &numbers, Some(&[4]), None);
+        let made = listed(Room::new(alloc), pieces(k), &numbers, Some(&[4]), None);
         holds(&rt, made, &[4], Right::Writable, &[1_i64, 1, 200, 0], None);
         let made = listed(
-            alloc,
+            Room::new(alloc),
             pieces(k),
             &numbers,
             Some(&[2, 2]),
@@ -674,12 +737,12 @@ fn listed_arrays(rt: HostRuntime) -> Result<(), Fail> {
             &[1_u8, 1, 200, 0],
             None,
         );
-        let made = listed(alloc, pieces(k), &truths, Some(&[2]), None);
+        let made = listed(Room::new(alloc), pieces(k), &truths, Some(&[2]), None);
         holds(&rt, made, &[2], Right::Writable, &[true, false], None);
     }
     holds::<i64>(
         &rt,
-        listed(alloc, 4, &[], Some(&[0]), None),
+        listed(Room::new(alloc), 4, &[], Some(&[0]), None),
         &[0],
         Right::Writable,
         &[],
@@ -687,18 +750,18 @@ fn listed_arrays(rt: HostRuntime) -> Result<(), Fail> {
     );
     refuses(
         &rt,
-        listed(alloc, 4, &numbers, None, Some(DType::Int8)),
+        listed(Room::new(alloc), 4, &numbers, None, Some(DType::Int8)),
         FaultKind::Range,
     );
     refuses(
         &rt,
-        listed(alloc, 4, &numbers, None, None),
+        listed(Room::new(alloc), 4, &numbers, None, None),
         FaultKind::Shape,
     );
     let deep = [1, 1, 1, 1, 4];
     refuses(
         &rt,
-        listed(alloc, 4, &numbers, Some(&deep), None),
+        listed(Room::new(alloc), 4, &numbers, Some(&deep), None),
         FaultKind::Shape,
     );
     Ok(())

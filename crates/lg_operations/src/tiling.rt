@@ -16,8 +16,7 @@ use lg_outside::NoMemory;
 use lg_part::{Grid, colors};
 use lg_shape::Shape;
 use lg_space::AnyRect;
-use lg_tile::{AnyTile, Tile, TileElem, by_type};
-use std::alloc::Global;
+use lg_tile::{AnyTile, Room, Spares, Tile, TileElem, by_type};
 
 // About how many elements of a view are gathered at once, so that they are still in the cache when
 // they are read.
@@ -30,7 +29,7 @@ const MOST_TILES: u64 = 64;
 /// cut into tiles, into more than are asked for where the elements of a view have to be gathered.
 /// Where there are several, their elements lie one behind the other in the result.
 pub fn evaluate(
-    alloc: Global,
+    room: Room<'_>,
     pieces: u32,
     op: &MapOp,
     inputs: &Inputs<'_>,
@@ -47,9 +46,9 @@ pub fn evaluate(
     let all = shape.whole();
     let grid = row_tiles(pieces_for(pieces, inputs, all.volume()), shape);
     if grid.count() == 1 {
-        return evaluate_part(alloc, op, inputs, &all, t);
+        return evaluate_part(room, op, inputs, &all, t);
     }
-    by_type!(t, in_rows::<_>(alloc, op, inputs, &all, &grid))
+    by_type!(t, in_rows::<_>(room, op, inputs, &all, &grid))
 }
 
 // Into how many tiles so many elements are cut.
@@ -78,7 +77,7 @@ fn row_tiles(pieces: u32, shape: &Shape) -> Grid
 
 // Tile after tile, each behind the ones before it.
 fn in_rows<T: TileElem>(
-    alloc: Global,
+    room: Room<'_>,
     op: &MapOp,
     inputs: &Inputs<'_>,
     all: &AnyRect,
@@ -89,10 +88,13 @@ fn in_rows<T: TileElem>(
     requires cut { InOrder (combinations grid.now) all.now }
     ensures { IfOk result (Evaluates op.now T.DTYPE inputs.now all.now) }
 {
-    let mut items: Vec<T> = Vec::with_capacity(alloc, all.volume() as usize)?;
+    let mut items: Vec<T> = room.none_of(all.volume() as usize)?;
     let mut flag = Flag::Clear;
+    // The memory of one tile serves the next.
+    let spares = Spares::new();
+    let own = Room::beside(room.alloc(), &spares);
     for color in 0..grid.count() {
-        let next = append_tile(alloc, &mut items, op, inputs, &grid.tile(color))?;
+        let next = append_tile(own, &mut items, op, inputs, &grid.tile(color))?;
         flag = first(flag, next);
     }
     Ok((T::any(Tile::new(*all, items)), flag))
@@ -100,7 +102,7 @@ fn in_rows<T: TileElem>(
 
 // Appends the elements of a tile. Its flag is answered.
 fn append_tile<T: TileElem>(
-    alloc: Global,
+    room: Room<'_>,
     items: &mut Vec<T>,
     op: &MapOp,
     inputs: &Inputs<'_>,
@@ -112,14 +114,15 @@ fn append_tile<T: TileElem>(
         ++ lent_values op.now T.DTYPE inputs.now rect.now) }
     ensures flag { IfOk result (λ flag. flag ≡ lent_flags op.now T.DTYPE inputs.now rect.now) }
 {
-    let (tile, flag) = evaluate_part(alloc, op, inputs, rect, T::DTYPE)?;
+    let (tile, flag) = evaluate_part(room, op, inputs, rect, T::DTYPE)?;
     items.extend_from_slice(T::tile_of(&tile).items())?;
+    room.keep(tile);
     Ok(flag)
 }
 
 // The elements of one tile, of what is read over it.
 fn evaluate_part(
-    alloc: Global,
+    room: Room<'_>,
     op: &MapOp,
     inputs: &Inputs<'_>,
     rect: &AnyRect,
@@ -129,15 +132,19 @@ fn evaluate_part(
     requires takes { Takes op.now inputs.now rect.now t }
     ensures { IfOk result (Evaluates op.now t inputs.now rect.now) }
 {
-    let first = part_of(alloc, &inputs.first, rect)?;
-    let second = part_of(alloc, &inputs.second, rect)?;
-    let third = part_of(alloc, &inputs.third, rect)?;
-    map_parts(alloc, op, (&first, &second, &third), rect, t)
+    let first = part_of(room, &inputs.first, rect)?;
+    let second = part_of(room, &inputs.second, rect)?;
+    let third = part_of(room, &inputs.third, rect)?;
+    let answer = map_parts(room, op, (&first, &second, &third), rect, t);
+    first.give_back(room);
+    second.give_back(room);
+    third.give_back(room);
+    answer
 }
 
 // The elements of one tile, of three parts as the inputs.
 fn map_parts(
-    alloc: Global,
+    room: Room<'_>,
     op: &MapOp,
     parts: (&Part<'_>, &Part<'_>, &Part<'_>),
     rect: &AnyRect,
@@ -148,7 +155,7 @@ fn map_parts(
         (tiles_of parts.entry.0.now parts.entry.1.now parts.entry.2.now) rect.now) }
 {
     map_tile(
-        alloc,
+        room,
         op,
         &[parts.0.tile(), parts.1.tile(), parts.2.tile()],
         rect,

@@ -17,7 +17,7 @@ held_in slot = option_map (λ (whole : WholeTile). root_of whole.tile) (unwrap_o
 
 pub writes_at : (roots : Roots) (view : View) (old new : WholeTile) (values : List ℤ) → slice_get roots.tiles.items view.root ≡ Some (Some old) → dtype_of new.tile ≡ dtype_of old.tile
     → rect_of new.tile ≡ rect_of old.tile → Puts view.places values (numbers old.tile) (numbers new.tile)
-    → Writes (contents roots) (contents (record { tiles = with_item roots.tiles view.root (Some new) })) view values
+    → Writes (contents roots) (contents (record roots { tiles = with_item roots.tiles view.root (Some new) })) view values
 writes_at roots view old new values at dtype rect puts = record {
   old = root_of old.tile;
   new = root_of new.tile;

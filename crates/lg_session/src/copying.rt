@@ -20,7 +20,7 @@ use lg_operations::{
 };
 use lg_shape::Shape;
 use lg_store::{Right, View};
-use std::alloc::Global;
+use lg_tile::Room;
 
 /// `a.astype(type)`
 ///
@@ -28,7 +28,7 @@ use std::alloc::Global;
 ///
 /// `Range` where a weak number does not fit int64, then `Limit`, and `NoMemory`.
 pub(crate) fn converted(
-    alloc: Global,
+    room: Room<'_>,
     session: &Session,
     a: &Value,
     t: DType,
@@ -39,7 +39,7 @@ pub(crate) fn converted(
         (as_type_value (value_in (contents session.now.roots) a.now)) result }
 {
     let a = session.read(a);
-    Ok(Value::Fresh(as_type(alloc, session.pieces, &a, t)?))
+    Ok(Value::Fresh(as_type(room, session.pieces, &a, t)?))
 }
 
 /// `a.copy()`
@@ -47,14 +47,14 @@ pub(crate) fn converted(
 /// # Errors
 ///
 /// `Range` where a weak number does not fit int64, then `Limit`, and `NoMemory`.
-pub(crate) fn copied(alloc: Global, session: &Session, a: Value) -> Result<Value, EvaluateEnd>
+pub(crate) fn copied(room: Room<'_>, session: &Session, a: Value) -> Result<Value, EvaluateEnd>
     requires { IsUsable (contents session.now.roots) a }
     ensures usable { IfOk result (IsUsable (contents session.now.roots)) }
     ensures computed { IsComputed (copy_static (value_static a))
         (same_numbers (value_in (contents session.now.roots) a)) result }
 {
     let (_, shape) = rule_of_copy(&session.read(&a))?;
-    Ok(Value::Fresh(anew(alloc, session, a, &shape)?))
+    Ok(Value::Fresh(anew(room, session, a, &shape)?))
 }
 
 /// `a.flatten()`
@@ -62,14 +62,14 @@ pub(crate) fn copied(alloc: Global, session: &Session, a: Value) -> Result<Value
 /// # Errors
 ///
 /// `Range` where a weak number does not fit int64, then `Limit`, and `NoMemory`.
-pub(crate) fn flattened(alloc: Global, session: &Session, a: Value) -> Result<Value, EvaluateEnd>
+pub(crate) fn flattened(room: Room<'_>, session: &Session, a: Value) -> Result<Value, EvaluateEnd>
     requires { IsUsable (contents session.now.roots) a }
     ensures usable { IfOk result (IsUsable (contents session.now.roots)) }
     ensures computed { IsComputed (flatten_static (value_static a))
         (same_numbers (value_in (contents session.now.roots) a)) result }
 {
     let (_, shape) = rule_of_flatten(&session.read(&a))?;
-    Ok(Value::Fresh(anew(alloc, session, a, &shape)?))
+    Ok(Value::Fresh(anew(room, session, a, &shape)?))
 }
 
 /// `a.reshape(shape)`
@@ -79,7 +79,7 @@ pub(crate) fn flattened(alloc: Global, session: &Session, a: Value) -> Result<Va
 /// `TypeKind` where an extent is no integer, then `Range` where a weak number does not fit int64,
 /// then `Shape` where the shape is none of as many elements, then `Limit`, and `NoMemory`.
 pub(crate) fn reshaped(
-    alloc: Global,
+    room: Room<'_>,
     session: &Session,
     a: Value,
     extents: &[Value],
@@ -90,19 +90,19 @@ pub(crate) fn reshaped(
         (reshape_static (value_static a) (map value_static extents.now))
         (same_numbers (value_in (contents session.now.roots) a)) result }
 {
-    let written = integers(alloc, extents)?;
+    let written = integers(room.alloc(), extents)?;
     let (_, shape) = rule_of_reshape(&session.read(&a), &written)?;
-    Ok(Value::Fresh(anew(alloc, session, a, &shape)?))
+    Ok(Value::Fresh(anew(room, session, a, &shape)?))
 }
 
 // The elements of a value as a new array of this shape, which may be written.
-fn anew(alloc: Global, session: &Session, a: Value, shape: &Shape) -> Result<Fresh, EvaluateEnd>
+fn anew(room: Room<'_>, session: &Session, a: Value, shape: &Shape) -> Result<Fresh, EvaluateEnd>
     requires usable { IsUsable (contents session.now.roots) a }
     requires small { size_of shape.now ≤ MAX_VOLUME }
     requires size { size_of shape.now ≡ size_of (shape_of (value_static a)) }
     ensures { IsMadeAnew (contents session.now.roots) a shape.now result }
 {
-    let fresh = owned(alloc, session, a)?;
+    let fresh = owned(room, session, a)?;
     Ok(Fresh {
         tile: in_shape(fresh.tile, shape),
         right: Right::Writable,
@@ -111,24 +111,24 @@ fn anew(alloc: Global, session: &Session, a: Value, shape: &Shape) -> Result<Fre
 }
 
 // The elements of a value as an array that no name reaches: those of a view are copied.
-fn owned(alloc: Global, session: &Session, a: Value) -> Result<Fresh, EvaluateEnd>
+fn owned(room: Room<'_>, session: &Session, a: Value) -> Result<Fresh, EvaluateEnd>
     requires { IsUsable (contents session.now.roots) a }
     ensures { IsOwned (contents session.now.roots) a result }
 {
     match a {
-        Value::Weak(w) => scalar_array(alloc, w),
-        Value::Shown(view) => gathered(alloc, session, &view),
+        Value::Weak(w) => scalar_array(room.alloc(), w),
+        Value::Shown(view) => gathered(room, session, &view),
         Value::Fresh(fresh) => Ok(fresh),
     }
 }
 
 // The elements of a view.
-fn gathered(alloc: Global, session: &Session, view: &View) -> Result<Fresh, EvaluateEnd>
+fn gathered(room: Room<'_>, session: &Session, view: &View) -> Result<Fresh, EvaluateEnd>
     requires { IsHeld (contents session.now.roots) view.now }
     ensures { IsOwned (contents session.now.roots) (Shown view.now) result }
 {
     Ok(Fresh {
-        tile: gather(alloc, session.roots.tile(view.root), &view.chain)?,
+        tile: gather(room, session.roots.tile(view.root), &view.chain)?,
         right: view.right,
         fault: None,
     })

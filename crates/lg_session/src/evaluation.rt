@@ -26,8 +26,8 @@ use crate::session::Session;
 use crate::value::Value;
 use lg_meaning::FaultKind;
 use lg_operations::{EvaluateEnd, Weak};
+use lg_tile::Room;
 use lg_tree::Expr;
-use std::alloc::Global;
 
 /// What an expression stands for.
 ///
@@ -35,7 +35,11 @@ use std::alloc::Global;
 ///
 /// The expression's first static fault, and `NoMemory`.
 #[cycle(walk)]
-pub(crate) fn evaluate(alloc: Global, session: &Session, value: &Expr) -> Result<Value, EvaluateEnd>
+pub(crate) fn evaluate(
+    room: Room<'_>,
+    session: &Session,
+    value: &Expr,
+) -> Result<Value, EvaluateEnd>
     requires { is_built_tree (tree_of value.now) ≡ true }
     ensures usable { IfOk result (IsUsable (contents session.now.roots)) }
     ensures outcome { (state : State) → StandsFor session.now state
@@ -45,23 +49,23 @@ pub(crate) fn evaluate(alloc: Global, session: &Session, value: &Expr) -> Result
         Expr::Number(n) => Ok(Value::Weak(Weak::Integer(i128::from(*n)))),
         Expr::Truth(b) => Ok(Value::Weak(Weak::Truth(*b))),
         Expr::Name(name) => named(session, name.as_slice()),
-        Expr::Arith(_, _, _) | Expr::Compare(_, _, _) => evaluate_operator(alloc, session, value),
+        Expr::Arith(_, _, _) | Expr::Compare(_, _, _) => evaluate_operator(room, session, value),
         Expr::Neg(_)
         | Expr::Invert(_)
         | Expr::Abs(_)
         | Expr::Minimum(_, _)
         | Expr::Maximum(_, _)
-        | Expr::Where(_, _, _) => evaluate_operation(alloc, session, value),
+        | Expr::Where(_, _, _) => evaluate_operation(room, session, value),
         Expr::Full(_, _, _)
         | Expr::Zeros(_, _)
         | Expr::Ones(_, _)
         | Expr::Arange(_, _, _)
-        | Expr::Array(_, _) => evaluate_creation(alloc, session, value),
+        | Expr::Array(_, _) => evaluate_creation(room, session, value),
         Expr::Index(_, _) | Expr::Transpose(_, _) | Expr::BroadcastTo(_, _) => {
-            evaluate_view(alloc, session, value)
+            evaluate_view(room, session, value)
         }
         Expr::Copy(_) | Expr::Flatten(_) | Expr::AsType(_, _) | Expr::Reshape(_, _) => {
-            evaluate_copy(alloc, session, value)
+            evaluate_copy(room, session, value)
         }
         Expr::MatMul(_, _)
         | Expr::Reduce(_, _, _)

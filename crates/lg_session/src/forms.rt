@@ -23,11 +23,12 @@ use lg_operations::{
     EvaluateEnd, Weak, binary, choose, compare, counted, full, listed, ones, unary, weak_arith,
     weak_compare, weak_negative, zeros,
 };
+use lg_tile::Room;
 use lg_tree::Arith;
 use std::alloc::Global;
 
 /// `-a`
-pub(crate) fn negative(alloc: Global, session: &Session, a: &Value) -> Result<Value, EvaluateEnd>
+pub(crate) fn negative(room: Room<'_>, session: &Session, a: &Value) -> Result<Value, EvaluateEnd>
     requires { IsUsable (contents session.now.roots) a.now }
     ensures usable { IfOk result (IsUsable (contents session.now.roots)) }
     ensures computed { IsComputed (neg_static (value_static a.now))
@@ -35,13 +36,13 @@ pub(crate) fn negative(alloc: Global, session: &Session, a: &Value) -> Result<Va
 {
     match a {
         Value::Weak(w) => Ok(Value::Weak(known(weak_negative(*w))?)),
-        _ => one_operand(alloc, session, Unary::Neg, a),
+        _ => one_operand(room, session, Unary::Neg, a),
     }
 }
 
 /// `~a` and `abs(a)`
 pub(crate) fn one_operand(
-    alloc: Global,
+    room: Room<'_>,
     session: &Session,
     op: Unary,
     a: &Value,
@@ -52,12 +53,12 @@ pub(crate) fn one_operand(
         (unary_value op (value_in (contents session.now.roots) a.now)) result }
 {
     let a = session.read(a);
-    Ok(Value::Fresh(unary(alloc, session.pieces, op, &a)?))
+    Ok(Value::Fresh(unary(room, session.pieces, op, &a)?))
 }
 
 /// `a + b`, and so for each operation of two operands.
 pub(crate) fn arithmetic(
-    alloc: Global,
+    room: Room<'_>,
     session: &Session,
     op: Arith,
     a: &Value,
@@ -75,12 +76,12 @@ pub(crate) fn arithmetic(
             return Ok(Value::Weak(known(answer)?));
         }
     }
-    two_operands(alloc, session, operation(op), a, b)
+    two_operands(room, session, operation(op), a, b)
 }
 
 /// `minimum(a, b)` and `maximum(a, b)`
 pub(crate) fn two_operands(
-    alloc: Global,
+    room: Room<'_>,
     session: &Session,
     op: Binary,
     a: &Value,
@@ -94,12 +95,12 @@ pub(crate) fn two_operands(
         (value_in (contents session.now.roots) b.now)) result }
 {
     let (a, b) = (session.read(a), session.read(b));
-    Ok(Value::Fresh(binary(alloc, session.pieces, op, &a, &b)?))
+    Ok(Value::Fresh(binary(room, session.pieces, op, &a, &b)?))
 }
 
 /// `a < b`, and so for each comparison.
 pub(crate) fn comparison(
-    alloc: Global,
+    room: Room<'_>,
     session: &Session,
     op: Compare,
     a: &Value,
@@ -116,12 +117,12 @@ pub(crate) fn comparison(
         return Ok(Value::Weak(weak_compare(op, *v, *w)));
     }
     let (a, b) = (session.read(a), session.read(b));
-    Ok(Value::Fresh(compare(alloc, session.pieces, op, &a, &b)?))
+    Ok(Value::Fresh(compare(room, session.pieces, op, &a, &b)?))
 }
 
 /// `where(condition, a, b)`
 pub(crate) fn choice(
-    alloc: Global,
+    room: Room<'_>,
     session: &Session,
     condition: &Value,
     a: &Value,
@@ -139,12 +140,12 @@ pub(crate) fn choice(
 {
     let condition = session.read(condition);
     let (a, b) = (session.read(a), session.read(b));
-    Ok(Value::Fresh(choose(alloc, session.pieces, &condition, &a, &b)?))
+    Ok(Value::Fresh(choose(room, session.pieces, &condition, &a, &b)?))
 }
 
 /// `full(shape, x, type)`
 pub(crate) fn full_array(
-    alloc: Global,
+    room: Room<'_>,
     session: &Session,
     extents: &[Value],
     x: &Value,
@@ -157,14 +158,14 @@ pub(crate) fn full_array(
         (λ xs w. full_static xs w dtype))
         (filled (only (value_in (contents session.now.roots) x.now))) result }
 {
-    let extents = integers(alloc, extents)?;
+    let extents = integers(room.alloc(), extents)?;
     let x = weak(x)?;
-    Ok(Value::Fresh(full(alloc, session.pieces, &extents, x, dtype)?))
+    Ok(Value::Fresh(full(room, session.pieces, &extents, x, dtype)?))
 }
 
 /// `zeros(shape, type)`
 pub(crate) fn array_of_zeros(
-    alloc: Global,
+    room: Room<'_>,
     session: &Session,
     extents: &[Value],
     dtype: Option<DType>,
@@ -174,13 +175,13 @@ pub(crate) fn array_of_zeros(
         (from_part (integers_of (map value_static extents.now)) (shaped (type_or dtype Int64)))
         (filled (pos 0)) result }
 {
-    let extents = integers(alloc, extents)?;
-    Ok(Value::Fresh(zeros(alloc, session.pieces, &extents, dtype)?))
+    let extents = integers(room.alloc(), extents)?;
+    Ok(Value::Fresh(zeros(room, session.pieces, &extents, dtype)?))
 }
 
 /// `ones(shape, type)`
 pub(crate) fn array_of_ones(
-    alloc: Global,
+    room: Room<'_>,
     session: &Session,
     extents: &[Value],
     dtype: Option<DType>,
@@ -190,13 +191,13 @@ pub(crate) fn array_of_ones(
         (from_part (integers_of (map value_static extents.now)) (shaped (type_or dtype Int64)))
         (filled (pos 1)) result }
 {
-    let extents = integers(alloc, extents)?;
-    Ok(Value::Fresh(ones(alloc, session.pieces, &extents, dtype)?))
+    let extents = integers(room.alloc(), extents)?;
+    Ok(Value::Fresh(ones(room, session.pieces, &extents, dtype)?))
 }
 
 /// `arange(from, to, type)`
 pub(crate) fn counted_array(
-    alloc: Global,
+    room: Room<'_>,
     session: &Session,
     from: &Value,
     to: &Value,
@@ -213,12 +214,12 @@ pub(crate) fn counted_array(
     let from = integer(from)?;
     let to = integer(to)?;
     let dtype = dtype.unwrap_or(DType::Int64);
-    Ok(Value::Fresh(counted(alloc, session.pieces, from, to, dtype)?))
+    Ok(Value::Fresh(counted(room, session.pieces, from, to, dtype)?))
 }
 
 /// `array(list, type)`, of what stands in the list and its shape, if its lists are alike.
 pub(crate) fn listed_array(
-    alloc: Global,
+    room: Room<'_>,
     session: &Session,
     members: &Members,
     shape: Option<Vec<u64>>,
@@ -234,7 +235,7 @@ pub(crate) fn listed_array(
     if members.has_array {
         return Err(EvaluateEnd::Fault(FaultKind::TypeKind));
     }
-    Ok(Value::Fresh(listed(alloc, session.pieces, &members.weaks, lent(&shape), dtype)?))
+    Ok(Value::Fresh(listed(room, session.pieces, &members.weaks, lent(&shape), dtype)?))
 }
 
 /// Values as numbers that are extents or axes: no truth value, and no array.

@@ -24,5 +24,6 @@ mod writing;
 
 pub use built::{first_unbuilt, is_built};
 pub use examples::built_by_example;
+pub use lg_tile::{Room, Spares};
 pub use loops::Turns;
 pub use session::{Session, Stop, StopEnd};

@@ -19,8 +19,8 @@ use crate::session::{Session, Stop, StopEnd};
 use crate::value::Value;
 use lg_operations::{EvaluateEnd, Weak};
 use lg_outside::NoMemory;
+use lg_tile::Room;
 use lg_tree::Expr;
-use std::alloc::Global;
 
 /// The turns of a loop: its variable goes from one number up to below another.
 #[derive(Clone, Copy, Debug, PartialEq, Eq)]
@@ -44,7 +44,7 @@ impl Session {
     /// spent.
     pub fn open_loop(
         &mut self,
-        alloc: Global,
+        room: Room<'_>,
         line: u64,
         from: &Option<Expr>,
         to: &Expr,
@@ -64,12 +64,12 @@ impl Session {
         ensures tidy { (root : ℕ) → IsTidyAt self.old root → IsTidyAt self.new root }
         ensures pieces { pieces_of self.new ≡ pieces_of self.old }
     {
-        match turns_of(alloc, self, from, to) {
+        match turns_of(room, self, from, to) {
             Ok(turns) => Ok(turns),
             Err(end) => {
                 self.spent = true;
                 Err(Stop {
-                    log: Vec::new(alloc),
+                    log: Vec::new(room.alloc()),
                     end: StopEnd::at(line, end),
                 })
             }
@@ -103,7 +103,7 @@ impl Session {
 
 // The turns of a loop with these bounds.
 fn turns_of(
-    alloc: Global,
+    room: Room<'_>,
     session: &Session,
     from: &Option<Expr>,
     to: &Expr,
@@ -114,22 +114,22 @@ fn turns_of(
         → AreTurns (bounds_of (maybe_of from.now) (tree_of to.now) state.names) result }
     ensures ranged { IfOk result AreRangedBounds }
 {
-    let from = first_bound(alloc, session, from)?;
-    let to = evaluate(alloc, session, to)?;
+    let from = first_bound(room, session, from)?;
+    let to = evaluate(room, session, to)?;
     let from = integer(&from)?;
     let to = integer(&to)?;
     Ok(Turns { from, to })
 }
 
 // The first bound, 0 where it is left out.
-fn first_bound(alloc: Global, session: &Session, from: &Option<Expr>) -> Result<Value, EvaluateEnd>
+fn first_bound(room: Room<'_>, session: &Session, from: &Option<Expr>) -> Result<Value, EvaluateEnd>
     requires { is_built_maybe (maybe_of from.now) ≡ true }
     ensures usable { IfOk result (IsUsable (contents session.now.roots)) }
     ensures outcome { (state : State) → StandsFor session.now state
         → IsFirstBound (maybe_of from.now) state session.now result }
 {
     match from {
-        Some(from) => evaluate(alloc, session, from),
+        Some(from) => evaluate(room, session, from),
         None => Ok(Value::Weak(Weak::Integer(0))),
     }
 }

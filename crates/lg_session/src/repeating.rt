@@ -22,9 +22,9 @@ use lg_operations::{
 };
 use lg_shape::Shape;
 use lg_store::{Right, View};
+use lg_tile::Room;
 use lg_tile::laws::full_tiles;
 use lg_xform::Chain;
-use std::alloc::Global;
 
 /// The view repeated to the shape that is written. It may be read alone, since it may have an
 /// element several times.
@@ -58,7 +58,7 @@ pub(crate) fn repeat_view(view: &View, written: &[i128]) -> Result<View, FaultKi
 ///
 /// The first fault of the shape, and `NoMemory`.
 pub(crate) fn repeat_fresh(
-    alloc: Global,
+    room: Room<'_>,
     fresh: &Fresh,
     written: &[i128],
 ) -> Result<Fresh, EvaluateEnd>
@@ -71,7 +71,7 @@ pub(crate) fn repeat_fresh(
     let to = shape_to(&shape, written)?;
     let chain = Chain::whole(&shape).broadcast(&to);
     Ok(Fresh {
-        tile: gather(alloc, &fresh.tile, &chain)?,
+        tile: gather(room, &fresh.tile, &chain)?,
         right: Right::ReadOnly,
         fault: fresh.fault,
     })
@@ -82,13 +82,13 @@ pub(crate) fn repeat_fresh(
 /// # Errors
 ///
 /// `Range` where the number does not fit int64, then the first fault of the shape, and `NoMemory`.
-pub(crate) fn repeat_weak(alloc: Global, w: Weak, written: &[i128]) -> Result<Fresh, EvaluateEnd>
+pub(crate) fn repeat_weak(room: Room<'_>, w: Weak, written: &[i128]) -> Result<Fresh, EvaluateEnd>
     ensures { IsMade (from_part (as_array (weak_value (weak_of w)))
         (λ kind. array_result (broadcast_kind kind written.now)))
         (picked_by (λ kind. repeated kind.shape) (plain [] (number_of (weak_of w) ∷ []))) result }
 {
-    let fresh = scalar_array(alloc, w)?;
-    repeat_fresh(alloc, &fresh, written)
+    let fresh = scalar_array(room.alloc(), w)?;
+    repeat_fresh(room, &fresh, written)
 }
 
 /// The shape that is written, to which a value of another shape is repeated.

@@ -14,11 +14,15 @@ use lg_store::View;
 use lg_tile::AnyTile;
 use lg_xform::Chain;
 use std::alloc::{AllocError, Global};
+use std::mem::replace;
 
 /// The roots that there are: whole typed elements, by number from 0 on. No number is given twice.
 #[derive(Drop)]
 pub(crate) struct Roots {
     tiles: Vec<Option<WholeTile>>,
+
+    // How much memory their elements take.
+    bytes: u64,
 }
 
 // A tile over all indices of a shape.
@@ -37,6 +41,7 @@ impl Roots {
     {
         Roots {
             tiles: Vec::new(alloc),
+            bytes: 0,
         }
     }
 
@@ -54,8 +59,15 @@ impl Roots {
             → contents self.new root ≡ contents self.old root) }
     {
         let root = self.tiles.len() as u64;
+        let bytes = tile.bytes();
         self.tiles.push(Some(WholeTile { tile }))?;
+        self.bytes = self.bytes.saturating_add(bytes);
         Ok(root)
+    }
+
+    /// How much memory their elements take.
+    pub(crate) fn bytes(&self) -> u64 {
+        self.bytes
     }
 
     /// The elements of a root.
@@ -69,8 +81,9 @@ impl Roots {
     }
 
     /// Writes a tile through a view of a root: each element to the place that the view has at its
-    /// index. All other elements stay. It takes no memory.
-    pub(crate) fn write(&mut self, target: &View, tile: AnyTile)
+    /// index. All other elements stay. It takes no memory, and a tile is left whose memory is not
+    /// needed any more.
+    pub(crate) fn write(&mut self, target: &View, tile: AnyTile) -> AnyTile
         requires held { IsHeld (contents self.old) target.now }
         requires dtype { dtype_of tile ≡ target.now.dtype }
         requires rect { rect_of tile ≡ whole (shape_of target.now.chain) }
@@ -78,24 +91,24 @@ impl Roots {
         ensures { Writes (contents self.old) (contents self.new) (view_of target.now) (numbers tile) }
     {
         let root = self.tiles[target.root as usize].as_mut().unwrap();
-        root.write(&target.chain, tile);
+        root.write(&target.chain, tile)
     }
 
-    /// Takes a root away. Its number is not given again.
-    pub(crate) fn forget(&mut self, root: u64)
+    /// Takes a root away, and gives its elements. Its number is not given again.
+    pub(crate) fn forget(&mut self, root: u64) -> Option<AnyTile>
         ensures gone { contents self.new root ≡ None }
         ensures others { (other : ℕ) → root ≢ other
             → contents self.new other ≡ contents self.old other }
     {
-        if let Some(slot) = self.tiles.get_mut(root as usize) {
-            *slot = None;
-        }
+        let whole = self.tiles.get_mut(root as usize)?.take()?;
+        self.bytes = self.bytes.saturating_sub(whole.tile.bytes());
+        Some(whole.tile)
     }
 }
 
 impl WholeTile {
     // Writes a tile through a view of this one. The tile itself is kept where the view is the whole.
-    fn write(&mut self, chain: &Chain, tile: AnyTile)
+    fn write(&mut self, chain: &Chain, tile: AnyTile) -> AnyTile
         requires dtype { dtype_of tile ≡ dtype_of self.old.tile }
         requires rect { rect_of tile ≡ whole (shape_of chain.now) }
         requires root { rect_of self.old.tile ≡ whole (root_shape chain.now) }
@@ -110,9 +123,9 @@ impl WholeTile {
         let _limits = self.tile.rect().ranges();
         let _root = chain.root();
         if is_whole(chain) {
-            self.tile = tile;
-            return;
+            return replace(&mut self.tile, tile);
         }
         scatter(&tile, chain, &mut self.tile);
+        tile
     }
 }

@@ -22,8 +22,8 @@ use lg_meaning::FaultKind;
 use lg_operations::{EvaluateEnd, Fresh, Operand, shape_in};
 use lg_outside::NoMemory;
 use lg_store::{Right, View};
-use lg_tile::AnyTile;
 use lg_tile::laws::full_tiles;
+use lg_tile::{AnyTile, Room};
 use lg_tree::{Expr, Line, Statement};
 use lg_xform::Chain;
 use std::alloc::{AllocError, Global};
@@ -38,6 +38,9 @@ pub struct Session {
     pub(crate) names: Names,
     pub(crate) roots: Roots,
     pub(crate) spent: bool,
+
+    // The elements of the root that was forgotten last, until their memory is given back.
+    pub(crate) freed: Option<AnyTile>,
     ghost least: { 1 ≤ pieces },
     ghost most: { pieces ≤ 64 },
     ghost held: { AreHeld (contents roots) names } by { Prim.hlevel props },
@@ -95,6 +98,7 @@ impl Session {
             names: Names::new(alloc),
             roots: Roots::new(alloc),
             spent: false,
+            freed: None,
         })
     }
 
@@ -112,7 +116,7 @@ impl Session {
     ///
     /// The statement's fault, with the number of its line, and `NoMemory`. The session is then
     /// spent.
-    pub fn step(&mut self, alloc: Global, line: &Line) -> Result<Vec<u8>, Stop>
+    pub fn step(&mut self, room: Room<'_>, line: &Line) -> Result<Vec<u8>, Stop>
         requires going { is_spent self.old ≡ false }
         requires built { is_built (line_of line.now).statement ≡ true }
         ensures done { IfOk result (λ text. (state : State) → StandsFor self.old state →
@@ -124,12 +128,16 @@ impl Session {
         ensures tidy { (root : ℕ) → IsTidyAt self.old root → IsTidyAt self.new root }
         ensures pieces { pieces_of self.new ≡ pieces_of self.old }
     {
-        match self.execute(alloc, &line.statement) {
-            Ok(text) => Ok(text),
+        match self.execute(room, &line.statement) {
+            Ok(text) => {
+                give_back(room, self.freed.take());
+                room.shrink(self.roots.bytes());
+                Ok(text)
+            }
             Err(end) => {
                 self.spent = true;
                 Err(Stop {
-                    log: Vec::new(alloc),
+                    log: Vec::new(room.alloc()),
                     end: StopEnd::at(line.number, end),
                 })
             }
@@ -137,7 +145,7 @@ impl Session {
     }
 
     // Performs a statement, and gives the text that it prints.
-    fn execute(&mut self, alloc: Global, statement: &Statement) -> Result<Vec<u8>, EvaluateEnd>
+    fn execute(&mut self, room: Room<'_>, statement: &Statement) -> Result<Vec<u8>, EvaluateEnd>
         requires { is_built (statement_of statement.now) ≡ true }
         ensures outcome { (state : State) → StandsFor self.old state
             → IsExecuted (statement_of statement.now) state result self.new }
@@ -147,17 +155,17 @@ impl Session {
     {
         match statement {
             Statement::Bind { name, value } => {
-                self.assign(alloc, name.as_slice(), value)?;
-                Ok(Vec::new(alloc))
+                self.assign(room, name.as_slice(), value)?;
+                Ok(Vec::new(room.alloc()))
             }
-            Statement::Print { value } => self.print(alloc, value),
+            Statement::Print { value } => self.print(room, value),
             Statement::Update { name, op, value } => {
-                self.update(alloc, name.as_slice(), *op, value)?;
-                Ok(Vec::new(alloc))
+                self.update(room, name.as_slice(), *op, value)?;
+                Ok(Vec::new(room.alloc()))
             }
             Statement::Put { name, index, value } => {
-                self.put(alloc, name.as_slice(), index.as_slice(), value)?;
-                Ok(Vec::new(alloc))
+                self.put(room, name.as_slice(), index.as_slice(), value)?;
+                Ok(Vec::new(room.alloc()))
             }
             Statement::UpdateAt {
                 name,
@@ -165,8 +173,8 @@ impl Session {
                 op,
                 value,
             } => {
-                self.update_at(alloc, name.as_slice(), index.as_slice(), *op, value)?;
-                Ok(Vec::new(alloc))
+                self.update_at(room, name.as_slice(), index.as_slice(), *op, value)?;
+                Ok(Vec::new(room.alloc()))
             }
             Statement::For { .. } | Statement::Load { .. } | Statement::Save { .. } => {
                 unreachable!()
@@ -175,17 +183,17 @@ impl Session {
     }
 
     // What `print` writes of an expression.
-    fn print(&self, alloc: Global, value: &Expr) -> Result<Vec<u8>, EvaluateEnd>
+    fn print(&self, room: Room<'_>, value: &Expr) -> Result<Vec<u8>, EvaluateEnd>
         requires { is_built_tree (tree_of value.now) ≡ true }
         ensures { (state : State) → StandsFor self.now state
             → IsText (tree_of value.now) state result }
     {
-        let value = evaluate(alloc, self, value)?;
-        printed_operand(alloc, &self.read(&value))
+        let value = evaluate(room, self, value)?;
+        printed_operand(room.alloc(), &self.read(&value))
     }
 
     // Lets a name stand for the value of an expression, which is computed first.
-    fn assign(&mut self, alloc: Global, word: &[u8], value: &Expr) -> Result<(), EvaluateEnd>
+    fn assign(&mut self, room: Room<'_>, word: &[u8], value: &Expr) -> Result<(), EvaluateEnd>
         requires { is_built_tree (tree_of value.now) ≡ true }
         ensures outcome { (state : State) → StandsFor self.old state
             → IsBound word.now (tree_of value.now) state self.new result }
@@ -196,7 +204,7 @@ impl Session {
         if let Some(w) = weak_value(self, value) {
             return self.bind_value(word, Value::Weak(w));
         }
-        let value = evaluate(alloc, self, value)?;
+        let value = evaluate(room, self, value)?;
         self.bind_value(word, value)
     }
 
@@ -312,8 +320,15 @@ impl Session {
         ensures spent { self.new.spent ≡ self.old.spent }
     {
         if !self.names.reaches(root) {
-            self.roots.forget(root);
+            self.freed = self.roots.forget(root);
         }
+    }
+}
+
+// Gives the memory of a root back, if there was one.
+fn give_back(room: Room<'_>, tile: Option<AnyTile>) {
+    if let Some(tile) = tile {
+        room.keep(tile);
     }
 }
 

@@ -14,7 +14,7 @@ use itoa::Buffer;
 use lg_elem::{DType, Elem};
 use lg_operations::{EvaluateEnd, Operand, Weak, gather, shape_in};
 use lg_shape::Shape;
-use lg_tile::{AnyTile, Tile, TileElem, each};
+use lg_tile::{AnyTile, Room, Tile, TileElem, each};
 use std::alloc::{AllocError, Global};
 
 /// What `print` writes of an operand.
@@ -36,7 +36,7 @@ pub(crate) fn printed_operand(alloc: Global, operand: &Operand<'_>) -> Result<Ve
         }
         Operand::View { tile, chain, .. } => Ok(printed_array(
             alloc,
-            &gather(alloc, tile, chain)?,
+            &gather(Room::new(alloc), tile, chain)?,
         )?),
     }
 }

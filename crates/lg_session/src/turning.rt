@@ -20,6 +20,7 @@ use lg_meaning::FaultKind;
 use lg_operations::{EvaluateEnd, Fresh, gather, scalar_array, shape_in};
 use lg_shape::Step;
 use lg_store::View;
+use lg_tile::Room;
 use lg_tile::laws::full_tiles;
 use lg_xform::Chain;
 use std::alloc::Global;
@@ -48,7 +49,7 @@ pub(crate) fn axis_numbers(
 /// `Range` where a weak number does not fit int64, then the first fault of the axes, and
 /// `NoMemory`.
 pub(crate) fn transpose(
-    alloc: Global,
+    room: Room<'_>,
     session: &Session,
     a: &Value,
     axes: Option<&[i128]>,
@@ -61,11 +62,11 @@ pub(crate) fn transpose(
 {
     match a {
         Value::Weak(w) => {
-            let scalar = scalar_array(alloc, *w)?;
-            Ok(Value::Fresh(transpose_fresh(alloc, &scalar, axes)?))
+            let scalar = scalar_array(room.alloc(), *w)?;
+            Ok(Value::Fresh(transpose_fresh(room, &scalar, axes)?))
         }
         Value::Shown(view) => Ok(Value::Shown(transpose_view(view, axes)?)),
-        Value::Fresh(fresh) => Ok(Value::Fresh(transpose_fresh(alloc, fresh, axes)?)),
+        Value::Fresh(fresh) => Ok(Value::Fresh(transpose_fresh(room, fresh, axes)?)),
     }
 }
 
@@ -89,7 +90,7 @@ fn transpose_view(view: &View, axes: Option<&[i128]>) -> Result<View, FaultKind>
 
 // The elements of a new array with its axes in another order.
 fn transpose_fresh(
-    alloc: Global,
+    room: Room<'_>,
     fresh: &Fresh,
     axes: Option<&[i128]>,
 ) -> Result<Fresh, EvaluateEnd>
@@ -103,7 +104,7 @@ fn transpose_fresh(
     let _limits = fresh.tile.rect().ranges();
     let chain = turned(&Chain::whole(&shape_in(&fresh.tile)), axes)?;
     Ok(Fresh {
-        tile: gather(alloc, &fresh.tile, &chain)?,
+        tile: gather(room, &fresh.tile, &chain)?,
         right: right_of_view(fresh.right),
         fault: fresh.fault,
     })

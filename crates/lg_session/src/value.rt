@@ -1,5 +1,6 @@
 use lg_operations::{Fresh, Weak};
 use lg_store::View;
+use lg_tile::Room;
 
 /// What an expression stands for.
 #[derive(Drop)]
@@ -12,4 +13,13 @@ pub(crate) enum Value {
 
     /// An array that no root holds yet.
     Fresh(Fresh),
+}
+
+impl Value {
+    /// Gives the memory of a new array back that was read.
+    pub(crate) fn release(self, room: Room<'_>) {
+        if let Value::Fresh(fresh) = self {
+            room.keep(fresh.tile);
+        }
+    }
 }

@@ -17,7 +17,7 @@ use crate::value::Value;
 use crate::views::{index_fresh, index_shown, index_weak};
 use lg_operations::EvaluateEnd;
 use lg_shape::IndexItem;
-use std::alloc::Global;
+use lg_tile::Room;
 
 /// The most items that an index is read with.
 pub(crate) const MOST_ITEMS: usize = u32::MAX as usize;
@@ -28,7 +28,7 @@ pub(crate) const MOST_ITEMS: usize = u32::MAX as usize;
 ///
 /// `Range` where a weak number does not fit int64, then the index's first fault, and `NoMemory`.
 pub(crate) fn indexed(
-    alloc: Global,
+    room: Room<'_>,
     session: &Session,
     a: &Value,
     items: &[IndexItem],
@@ -43,9 +43,9 @@ pub(crate) fn indexed(
         return Err(EvaluateEnd::NoMemory);
     }
     match a {
-        Value::Weak(w) => Ok(Value::Fresh(index_weak(alloc, *w, items)?)),
-        Value::Fresh(fresh) => Ok(Value::Fresh(index_fresh(alloc, fresh, items)?)),
-        Value::Shown(view) => index_shown(alloc, session, view, items),
+        Value::Weak(w) => Ok(Value::Fresh(index_weak(room, *w, items)?)),
+        Value::Fresh(fresh) => Ok(Value::Fresh(index_fresh(room, fresh, items)?)),
+        Value::Shown(view) => index_shown(room, session, view, items),
     }
 }
 
@@ -55,7 +55,7 @@ pub(crate) fn indexed(
 ///
 /// The first fault of the axes, and `NoMemory`.
 pub(crate) fn transposed(
-    alloc: Global,
+    room: Room<'_>,
     session: &Session,
     a: &Value,
     axes: &Option<Vec<Value>>,
@@ -67,8 +67,8 @@ pub(crate) fn transposed(
         (transpose_axes (length (value_in (contents session.now.roots) a.now).shape)))))
         (λ shape. false) (contents session.now.roots) a.now result }
 {
-    let axes = axis_numbers(alloc, axes)?;
-    transpose(alloc, session, a, lent(&axes))
+    let axes = axis_numbers(room.alloc(), axes)?;
+    transpose(room, session, a, lent(&axes))
 }
 
 // The axes, if there are any.
@@ -88,7 +88,7 @@ fn lent(axes: &Option<Vec<i128>>) -> Option<&[i128]>
 /// `Shape` where the value does not broadcast to exactly this shape, `Limit` where it has too many
 /// elements, and `NoMemory`.
 pub(crate) fn broadcast(
-    alloc: Global,
+    room: Room<'_>,
     session: &Session,
     a: &Value,
     extents: &[Value],
@@ -98,13 +98,13 @@ pub(crate) fn broadcast(
     ensures viewed { IsViewed (broadcast_static (value_static a.now) (map value_static extents.now))
         (λ kind. repeated kind.shape) (λ shape. false) (contents session.now.roots) a.now result }
 {
-    let written = integers(alloc, extents)?;
-    repeat(alloc, session, a, &written)
+    let written = integers(room.alloc(), extents)?;
+    repeat(room, session, a, &written)
 }
 
 // The same, of extents that are whole numbers.
 fn repeat(
-    alloc: Global,
+    room: Room<'_>,
     session: &Session,
     a: &Value,
     written: &[i128],
@@ -116,8 +116,8 @@ fn repeat(
         (λ shape. false) (contents session.now.roots) a.now result }
 {
     match a {
-        Value::Weak(w) => Ok(Value::Fresh(repeat_weak(alloc, *w, written)?)),
-        Value::Fresh(fresh) => Ok(Value::Fresh(repeat_fresh(alloc, fresh, written)?)),
+        Value::Weak(w) => Ok(Value::Fresh(repeat_weak(room, *w, written)?)),
+        Value::Fresh(fresh) => Ok(Value::Fresh(repeat_fresh(room, fresh, written)?)),
         Value::Shown(view) => Ok(Value::Shown(repeat_view(view, written)?)),
     }
 }

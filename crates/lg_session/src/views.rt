@@ -26,12 +26,16 @@ use lg_meaning::FaultKind;
 use lg_operations::{EvaluateEnd, Fresh, Weak, gather, scalar_array, shape_in};
 use lg_shape::{IndexFault, IndexItem};
 use lg_store::{Right, View};
+use lg_tile::Room;
 use lg_tile::laws::full_tiles;
 use lg_xform::Chain;
-use std::alloc::Global;
 
 /// The view that an index picks of a view, or the index's first fault.
-pub(crate) fn index_view(alloc: Global, view: &View, items: &[IndexItem]) -> Result<View, FaultKind>
+pub(crate) fn index_view(
+    room: Room<'_>,
+    view: &View,
+    items: &[IndexItem],
+) -> Result<View, FaultKind>
     requires few { length items.now < 2 ^ 32 }
     requires held { IsViewOfSome view.now }
     ensures fault { result_err result
@@ -42,7 +46,7 @@ pub(crate) fn index_view(alloc: Global, view: &View, items: &[IndexItem]) -> Res
     ensures right { IfOk result (λ new. right_for new.right ≡ view_right (right_for view.now.right)) }
     ensures held { (root : Root) → IsViewOf view.now root → IfOk result (λ new. IsViewOf new root) }
 {
-    match view.chain.index(alloc, items) {
+    match view.chain.index(room.alloc(), items) {
         Ok(chain) => {
             // What is known of every chain is told with its root.
             let _root = chain.root();
@@ -63,7 +67,7 @@ pub(crate) fn index_view(alloc: Global, view: &View, items: &[IndexItem]) -> Res
 ///
 /// The index's first fault, and `NoMemory`.
 pub(crate) fn index_fresh(
-    alloc: Global,
+    room: Room<'_>,
     fresh: &Fresh,
     items: &[IndexItem],
 ) -> Result<Fresh, EvaluateEnd>
@@ -76,9 +80,9 @@ pub(crate) fn index_fresh(
     // What is known of every rectangle, its limits, is told with its ranges.
     let _limits = fresh.tile.rect().ranges();
     let shape = shape_in(&fresh.tile);
-    match Chain::whole(&shape).index(alloc, items) {
+    match Chain::whole(&shape).index(room.alloc(), items) {
         Ok(chain) => Ok(Fresh {
-            tile: gather(alloc, &fresh.tile, &chain)?,
+            tile: gather(room, &fresh.tile, &chain)?,
             right: right_of_index(fresh.right, is_element(shape.extents().len(), items)),
             fault: fresh.fault,
         }),
@@ -91,14 +95,14 @@ pub(crate) fn index_fresh(
 /// # Errors
 ///
 /// `Range` where an integer does not fit int64, then the index's first fault, and `NoMemory`.
-pub(crate) fn index_weak(alloc: Global, w: Weak, items: &[IndexItem]) -> Result<Fresh, EvaluateEnd>
+pub(crate) fn index_weak(room: Room<'_>, w: Weak, items: &[IndexItem]) -> Result<Fresh, EvaluateEnd>
     requires { length items.now < 2 ^ 32 }
     ensures { IsMade (from_part (as_array (weak_value (weak_of w)))
         (λ kind. array_result (index_kind kind items.now)))
         (picked (index_form items.now) (plain [] (number_of (weak_of w) ∷ []))) result }
 {
-    let scalar = scalar_array(alloc, w)?;
-    index_fresh(alloc, &scalar, items)
+    let scalar = scalar_array(room.alloc(), w)?;
+    index_fresh(room, &scalar, items)
 }
 
 /// What an index picks of a view that is held: a view, or a copy of one element.
@@ -107,7 +111,7 @@ pub(crate) fn index_weak(alloc: Global, w: Weak, items: &[IndexItem]) -> Result<
 ///
 /// The index's first fault, and `NoMemory`.
 pub(crate) fn index_shown(
-    alloc: Global,
+    room: Room<'_>,
     session: &Session,
     view: &View,
     items: &[IndexItem],
@@ -120,14 +124,14 @@ pub(crate) fn index_shown(
         (contents session.now.roots) (Shown view.now) result }
 {
     if is_element(view.chain.shape().extents().len(), items) {
-        return Ok(Value::Fresh(copied_element(alloc, session, view, items)?));
+        return Ok(Value::Fresh(copied_element(room, session, view, items)?));
     }
-    Ok(Value::Shown(index_view(alloc, view, items)?))
+    Ok(Value::Shown(index_view(room, view, items)?))
 }
 
 // The element that an index picks of a view that is held.
 fn copied_element(
-    alloc: Global,
+    room: Room<'_>,
     session: &Session,
     view: &View,
     items: &[IndexItem],
@@ -139,10 +143,10 @@ fn copied_element(
         (picked (index_form items.now) (plain (view_of view.now).kind.shape
         (shown_in (contents session.now.roots) (view_of view.now)))) result }
 {
-    let picked = index_view(alloc, view, items)?;
+    let picked = index_view(room, view, items)?;
     let tile = session.roots.tile(view.root);
     Ok(Fresh {
-        tile: gather(alloc, tile, &picked.chain)?,
+        tile: gather(room, tile, &picked.chain)?,
         right: Right::Scalar,
         fault: None,
     })

@@ -36,8 +36,8 @@ use crate::views::index_view;
 use lg_meaning::FaultKind;
 use lg_operations::{EvaluateEnd, Fresh, binary, is_writable, rule_of_update, taken, taken_fresh};
 use lg_store::{Right, View};
+use lg_tile::Room;
 use lg_tree::{Arith, Expr, Item};
-use std::alloc::Global;
 
 impl Session {
     /// Performs `w[items] = e`.
@@ -47,7 +47,7 @@ impl Session {
     /// The statement's fault, and `NoMemory`.
     pub(crate) fn put(
         &mut self,
-        alloc: Global,
+        room: Room<'_>,
         word: &[u8],
         items: &[Item],
         value: &Expr,
@@ -61,9 +61,9 @@ impl Session {
         ensures pieces { self.new.pieces ≡ self.old.pieces }
         ensures spent { self.new.spent ≡ self.old.spent }
     {
-        let value = evaluate(alloc, self, value)?;
-        let target = part_called(alloc, self, word, items)?;
-        let taken = self.taken(alloc, &target, value)?;
+        let value = evaluate(room, self, value)?;
+        let target = part_called(room, self, word, items)?;
+        let taken = self.taken(room, &target, value)?;
         self.write(&target, taken)
     }
 
@@ -74,7 +74,7 @@ impl Session {
     /// The statement's fault, and `NoMemory`.
     pub(crate) fn update(
         &mut self,
-        alloc: Global,
+        room: Room<'_>,
         word: &[u8],
         op: Arith,
         value: &Expr,
@@ -88,10 +88,10 @@ impl Session {
     {
         match self.names.get(word) {
             Some(Bound::Array(view)) => match view.right {
-                Right::Scalar => self.update_anew(alloc, word, op, value),
-                Right::Writable | Right::ReadOnly => self.update_view(alloc, &view, op, value),
+                Right::Scalar => self.update_anew(room, word, op, value),
+                Right::Writable | Right::ReadOnly => self.update_view(room, &view, op, value),
             },
-            Some(Bound::Weak(_)) | None => self.update_anew(alloc, word, op, value),
+            Some(Bound::Weak(_)) | None => self.update_anew(room, word, op, value),
         }
     }
 
@@ -102,7 +102,7 @@ impl Session {
     /// The statement's fault, and `NoMemory`.
     pub(crate) fn update_at(
         &mut self,
-        alloc: Global,
+        room: Room<'_>,
         word: &[u8],
         items: &[Item],
         op: Arith,
@@ -117,14 +117,14 @@ impl Session {
         ensures pieces { self.new.pieces ≡ self.old.pieces }
         ensures spent { self.new.spent ≡ self.old.spent }
     {
-        let target = part_called(alloc, self, word, items)?;
-        self.update_view(alloc, &target, op, value)
+        let target = part_called(room, self, word, items)?;
+        self.update_view(room, &target, op, value)
     }
 
     // Lets a name stand for the result of the operation on what it stands for.
     fn update_anew(
         &mut self,
-        alloc: Global,
+        room: Room<'_>,
         word: &[u8],
         op: Arith,
         value: &Expr,
@@ -137,15 +137,16 @@ impl Session {
         ensures spent { self.new.spent ≡ self.old.spent }
     {
         let a = named(self, word)?;
-        let b = evaluate(alloc, self, value)?;
-        let result = arithmetic(alloc, self, op, &a, &b)?;
+        let b = evaluate(room, self, value)?;
+        let result = arithmetic(room, self, op, &a, &b)?;
+        b.release(room);
         self.bind_value(word, result)
     }
 
     // Writes the result of the operation on what a view shows to the view.
     fn update_view(
         &mut self,
-        alloc: Global,
+        room: Room<'_>,
         view: &View,
         op: Arith,
         value: &Expr,
@@ -160,16 +161,17 @@ impl Session {
         ensures pieces { self.new.pieces ≡ self.old.pieces }
         ensures spent { self.new.spent ≡ self.old.spent }
     {
-        let value = evaluate(alloc, self, value)?;
+        let value = evaluate(room, self, value)?;
         let (a, b) = (self.read_view(view), self.read(&value));
-        let made = binary(alloc, self.pieces, operation(op), &a, &b)?;
+        let made = binary(room, self.pieces, operation(op), &a, &b)?;
+        value.release(room);
         rule_of_update(&made, view)?;
-        let taken = taken_fresh(alloc, self.pieces, made, view.dtype, &view.chain.shape())?;
+        let taken = taken_fresh(room, self.pieces, made, view.dtype, &view.chain.shape())?;
         self.write(view, taken)
     }
 
     // What a view takes of a value that is put there. A new array of its type and shape is not copied.
-    fn taken(&self, alloc: Global, target: &View, value: Value) -> Result<Fresh, EvaluateEnd>
+    fn taken(&self, room: Room<'_>, target: &View, value: Value) -> Result<Fresh, EvaluateEnd>
         requires held { IsHeld (contents self.now.roots) target.now }
         requires usable { IsUsable (contents self.now.roots) value }
         ensures { IsTakenBy (put_rule (view_of target.now).kind (value_static value))
@@ -181,9 +183,9 @@ impl Session {
         }
         let (t, shape) = (target.dtype, target.chain.shape());
         match value {
-            Value::Fresh(fresh) => taken_fresh(alloc, self.pieces, fresh, t, &shape),
+            Value::Fresh(fresh) => taken_fresh(room, self.pieces, fresh, t, &shape),
             Value::Weak(_) | Value::Shown(_) => {
-                taken(alloc, self.pieces, &self.read(&value), t, &shape)
+                taken(room, self.pieces, &self.read(&value), t, &shape)
             }
         }
     }
@@ -208,7 +210,7 @@ impl Session {
         ensures spent { self.new.spent ≡ self.old.spent }
     {
         let Fresh { tile, fault, .. } = taken;
-        self.roots.write(target, tile);
+        self.freed = Some(self.roots.write(target, tile));
         match fault {
             None => Ok(()),
             Some(kind) => Err(EvaluateEnd::Fault(kind)),
@@ -231,7 +233,7 @@ fn array_called(session: &Session, word: &[u8]) -> Result<View, EvaluateEnd>
 
 // The view that an index picks of the array that a name stands for, of one element too.
 fn part_called(
-    alloc: Global,
+    room: Room<'_>,
     session: &Session,
     word: &[u8],
     items: &[Item],
@@ -243,11 +245,11 @@ fn part_called(
         (items_of (item_trees (map item_of items.now)) state.names)) state session.now result }
 {
     let view = array_called(session, word)?;
-    let Some(items) = evaluate_items(alloc, session, items)? else {
+    let Some(items) = evaluate_items(room, session, items)? else {
         return Err(EvaluateEnd::Fault(FaultKind::TypeKind));
     };
     if items.len() > MOST_ITEMS {
         return Err(EvaluateEnd::NoMemory);
     }
-    Ok(index_view(alloc, &view, &items)?)
+    Ok(index_view(room, &view, &items)?)
 }

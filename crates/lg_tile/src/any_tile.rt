@@ -4,7 +4,8 @@ ghost use Rattle.lg_space.specs.Rectangle.{IsIn, place_in, volume_of};
 ghost use Rattle.lg_tile.specs.Tile.{tile_items, tile_rect};
 ghost use Rattle.lg_tile.specs.Tiles.{dtype_of, numbers, rect_of};
 
-use crate::{Tile, TileElem, by_type, each};
+use crate::room::bytes_of;
+use crate::{Room, Tile, TileElem, by_type, each};
 use lg_elem::{DType, Elem};
 use lg_outside::NoMemory;
 use lg_space::{AnyRect, Point};
@@ -74,14 +75,19 @@ impl AnyTile {
         each!(self, tile => set_number(tile, p, x))
     }
 
-    /// A tile of the same type, rectangle and numbers. It takes memory once, and the only error is
-    /// that there is none.
-    pub fn copied(&self, alloc: Global) -> Result<AnyTile, NoMemory>
+    /// How many bytes its elements take.
+    pub fn bytes(&self) -> u64 {
+        bytes_of(self.dtype(), self.rect().volume())
+    }
+
+    /// A tile of the same type, rectangle and numbers. Its elements take the room that is given, and
+    /// the only error is that there is none.
+    pub fn copied(&self, room: Room<'_>) -> Result<AnyTile, NoMemory>
         ensures dtype { IfOk result (λ tile. dtype_of tile ≡ dtype_of self.now) }
         ensures rect { IfOk result (λ tile. rect_of tile ≡ rect_of self.now) }
         ensures numbers { IfOk result (λ tile. numbers tile ≡ numbers self.now) }
     {
-        each!(self, tile => copy_of(tile, alloc))
+        each!(self, tile => copy_of(tile, room))
     }
 }
 
@@ -112,12 +118,12 @@ fn filled_with<T: TileElem>(alloc: Global, rect: &AnyRect, x: i128) -> Result<An
 }
 
 // A copy of a typed tile.
-fn copy_of<T: TileElem>(tile: &Tile<T>, alloc: Global) -> Result<AnyTile, NoMemory>
+fn copy_of<T: TileElem>(tile: &Tile<T>, room: Room<'_>) -> Result<AnyTile, NoMemory>
     ensures dtype { IfOk result (λ copy. dtype_of copy ≡ T.DTYPE) }
     ensures rect { IfOk result (λ copy. rect_of copy ≡ tile_rect tile.now) }
     ensures numbers { IfOk result (λ copy. numbers copy ≡ map T.number (tile_items tile.now)) }
 {
-    Ok(T::any(tile.copied(alloc)?))
+    Ok(T::any(room.copy_of(tile)?))
 }
 
 // The number of a typed tile's element.

@@ -4,7 +4,7 @@ ghost use Rattle.lg_space.specs.Stored.{IsStorable};
 ghost use Rattle.lg_tile.specs.Blocks.{IsPart};
 
 use crate::laws::full_tiles;
-use crate::{AnyTile, Tile};
+use crate::{AnyTile, Room, Spares, Tile};
 use lg_elem::DType;
 use lg_space::{AnyRect, Point};
 use std::alloc::Global;
@@ -56,7 +56,7 @@ fn keeps_numbers(rt: &impl Abort, alloc: Global, dtype: DType, x: i128, y: i128)
     assert!(rt; rect.contains(&here) && rect.contains(&there));
     let mut tile = AnyTile::filled(alloc, dtype, &rect, x)?;
     tile.set(&here, y);
-    let copy = tile.copied(alloc)?;
+    let copy = tile.copied(Room::new(alloc))?;
     tile.set(&here, x);
     assert_eq!(rt; copy.dtype(), dtype);
     assert_eq!(rt; *copy.rect(), rect, "{dtype:?}");
@@ -87,7 +87,7 @@ fn numbers_of_every_type(rt: HostRuntime) -> Result<(), Fail> {
 fn copies_a_row(rt: HostRuntime) -> Result<(), Fail> {
     let alloc = rt.alloc();
     let rect = AnyRect::new(&[(0, 3)]);
-    let copy = AnyTile::filled(alloc, DType::Int64, &rect, 7)?.copied(alloc)?;
+    let copy = AnyTile::filled(alloc, DType::Int64, &rect, 7)?.copied(Room::new(alloc))?;
     assert_eq!(rt; copy.dtype(), DType::Int64);
     assert_eq!(rt; *copy.rect(), rect);
     for i in 0..3 {
@@ -104,7 +104,7 @@ fn elements_as_a_slice(rt: HostRuntime) -> Result<(), Fail> {
     let rect = AnyRect::new(&[(1, 3), (2, 5)]);
     let mut tile = Tile::<i32>::filled(alloc, &rect, -1)?;
     tile.items_mut().copy_from_slice(&[1, 2, 3, 4, 5, 6]);
-    let copy = tile.copied(alloc)?;
+    let copy = Room::new(alloc).copy_of(&tile)?;
     tile.items_mut()[4] = 0;
     assert_eq!(rt; tile.items(), [1, 2, 3, 4, 0, 6].as_slice());
     assert_eq!(rt; copy.items(), [1, 2, 3, 4, 5, 6].as_slice());
@@ -165,5 +165,40 @@ fn tiles_cross_threads(_rt: HostRuntime) -> Result<(), Fail> {
 #[test]
 fn law(_rt: HostRuntime) -> Result<(), Fail> {
     full_tiles();
+    Ok(())
+}
+
+// The next tile of this type and size, whose first element is told: it tells whose memory was taken.
+fn first_of(room: Room<'_>, rect: &AnyRect) -> Result<Option<i16>, Fail> {
+    let tile = room.tile::<i16>(rect)?;
+    Ok(tile.items().first().copied())
+}
+
+#[test]
+fn spare_tiles_are_used_again(rt: HostRuntime) -> Result<(), Fail> {
+    let alloc = rt.alloc();
+    let spares = Spares::new();
+    let room = Room::beside(alloc, &spares);
+    let rect = AnyRect::new(&[(0, 8_192)]);
+    let small = AnyRect::new(&[(0, 100)]);
+    spares.keep(AnyTile::filled(alloc, DType::Int16, &rect, 1)?);
+    spares.keep(AnyTile::filled(alloc, DType::Int16, &rect, 2)?);
+    spares.keep(AnyTile::filled(alloc, DType::Int16, &rect, 3)?);
+    spares.keep(AnyTile::filled(alloc, DType::UInt16, &rect, 4)?);
+    spares.keep(AnyTile::filled(alloc, DType::Int16, &rect, 5)?);
+    spares.keep(AnyTile::filled(alloc, DType::Int16, &small, 6)?);
+    assert_eq!(rt; first_of(room, &small)?, Some(0));
+    assert_eq!(rt; first_of(room, &AnyRect::new(&[(0, 8_191)]))?, Some(0));
+    assert_eq!(rt; first_of(room, &rect)?, Some(5));
+    assert_eq!(rt; first_of(room, &rect)?, Some(3));
+    assert_eq!(rt; first_of(room, &rect)?, Some(2));
+    assert_eq!(rt; first_of(room, &rect)?, Some(0));
+    spares.keep(AnyTile::filled(alloc, DType::Int16, &rect, 7)?);
+    spares.shrink(2 * 16_384);
+    assert_eq!(rt; first_of(room, &rect)?, Some(7));
+    spares.keep(AnyTile::filled(alloc, DType::Int16, &rect, 8)?);
+    spares.shrink(16_383);
+    assert_eq!(rt; first_of(room, &rect)?, Some(0));
+    assert_eq!(rt; room.none_of::<u16>(8_192)?.len(), 0);
     Ok(())
 }

@@ -103,16 +103,6 @@ impl<T: Elem + Drop> Tile<T> {
         self.items_mut()[place] = x;
     }
 
-    /// A tile of the same rectangle and elements. It takes memory once, and the only error is that
-    /// there is none.
-    pub fn copied(&self, alloc: Global) -> Result<Tile<T>, NoMemory>
-        ensures rect { IfOk result (λ tile. tile_rect tile ≡ tile_rect self.now) }
-        ensures items { IfOk result (λ tile. tile_items tile ≡ tile_items self.now) }
-    {
-        let items = Vec::from_slice(alloc, &self.items)?;
-        Ok(Tile::new(self.rect, items))
-    }
-
     /// The elements at the indices of a part of the rectangle, in row-major order. They are lent as
     /// they lie where the part is the whole rectangle, and else copied. It takes memory at most
     /// once, and the only error is that there is none.

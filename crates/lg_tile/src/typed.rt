@@ -15,6 +15,11 @@ pub trait TileElem: Elem + Drop {
     fn tile_of(any: &AnyTile) -> &Tile<Self>
         requires { dtype_of any.now ≡ Self.DTYPE }
         ensures { IsTyped Self.DTYPE Self.number result.now any.now };
+
+    /// The same of a tile that is given away.
+    fn into_tile(any: AnyTile) -> Tile<Self>
+        requires { dtype_of any ≡ Self.DTYPE }
+        ensures { IsTyped Self.DTYPE Self.number result any };
 }
 
 impl TileElem for bool {
@@ -29,6 +34,17 @@ impl TileElem for bool {
     fn tile_of(any: &AnyTile) -> &Tile<bool>
         requires { dtype_of any.now ≡ ⟦<bool as Elem>⟧.DTYPE }
         ensures { IsTyped ⟦<bool as Elem>⟧.DTYPE ⟦<bool as Elem>⟧.number result.now any.now }
+    {
+        match any {
+            AnyTile::Bool(tile) => tile,
+            _ => unreachable!(),
+        }
+    }
+
+    #[inline]
+    fn into_tile(any: AnyTile) -> Tile<bool>
+        requires { dtype_of any ≡ ⟦<bool as Elem>⟧.DTYPE }
+        ensures { IsTyped ⟦<bool as Elem>⟧.DTYPE ⟦<bool as Elem>⟧.number result any }
     {
         match any {
             AnyTile::Bool(tile) => tile,
@@ -55,6 +71,17 @@ impl TileElem for i8 {
             _ => unreachable!(),
         }
     }
+
+    #[inline]
+    fn into_tile(any: AnyTile) -> Tile<i8>
+        requires { dtype_of any ≡ ⟦<i8 as Elem>⟧.DTYPE }
+        ensures { IsTyped ⟦<i8 as Elem>⟧.DTYPE ⟦<i8 as Elem>⟧.number result any }
+    {
+        match any {
+            AnyTile::Int8(tile) => tile,
+            _ => unreachable!(),
+        }
+    }
 }
 
 impl TileElem for i16 {
@@ -69,6 +96,17 @@ impl TileElem for i16 {
     fn tile_of(any: &AnyTile) -> &Tile<i16>
         requires { dtype_of any.now ≡ ⟦<i16 as Elem>⟧.DTYPE }
         ensures { IsTyped ⟦<i16 as Elem>⟧.DTYPE ⟦<i16 as Elem>⟧.number result.now any.now }
+    {
+        match any {
+            AnyTile::Int16(tile) => tile,
+            _ => unreachable!(),
+        }
+    }
+
+    #[inline]
+    fn into_tile(any: AnyTile) -> Tile<i16>
+        requires { dtype_of any ≡ ⟦<i16 as Elem>⟧.DTYPE }
+        ensures { IsTyped ⟦<i16 as Elem>⟧.DTYPE ⟦<i16 as Elem>⟧.number result any }
     {
         match any {
             AnyTile::Int16(tile) => tile,
@@ -95,6 +133,17 @@ impl TileElem for i32 {
             _ => unreachable!(),
         }
     }
+
+    #[inline]
+    fn into_tile(any: AnyTile) -> Tile<i32>
+        requires { dtype_of any ≡ ⟦<i32 as Elem>⟧.DTYPE }
+        ensures { IsTyped ⟦<i32 as Elem>⟧.DTYPE ⟦<i32 as Elem>⟧.number result any }
+    {
+        match any {
+            AnyTile::Int32(tile) => tile,
+            _ => unreachable!(),
+        }
+    }
 }
 
 impl TileElem for i64 {
@@ -109,6 +158,17 @@ impl TileElem for i64 {
     fn tile_of(any: &AnyTile) -> &Tile<i64>
         requires { dtype_of any.now ≡ ⟦<i64 as Elem>⟧.DTYPE }
         ensures { IsTyped ⟦<i64 as Elem>⟧.DTYPE ⟦<i64 as Elem>⟧.number result.now any.now }
+    {
+        match any {
+            AnyTile::Int64(tile) => tile,
+            _ => unreachable!(),
+        }
+    }
+
+    #[inline]
+    fn into_tile(any: AnyTile) -> Tile<i64>
+        requires { dtype_of any ≡ ⟦<i64 as Elem>⟧.DTYPE }
+        ensures { IsTyped ⟦<i64 as Elem>⟧.DTYPE ⟦<i64 as Elem>⟧.number result any }
     {
         match any {
             AnyTile::Int64(tile) => tile,
@@ -135,6 +195,17 @@ impl TileElem for u8 {
             _ => unreachable!(),
         }
     }
+
+    #[inline]
+    fn into_tile(any: AnyTile) -> Tile<u8>
+        requires { dtype_of any ≡ ⟦<u8 as Elem>⟧.DTYPE }
+        ensures { IsTyped ⟦<u8 as Elem>⟧.DTYPE ⟦<u8 as Elem>⟧.number result any }
+    {
+        match any {
+            AnyTile::UInt8(tile) => tile,
+            _ => unreachable!(),
+        }
+    }
 }
 
 impl TileElem for u16 {
@@ -149,6 +220,17 @@ impl TileElem for u16 {
     fn tile_of(any: &AnyTile) -> &Tile<u16>
         requires { dtype_of any.now ≡ ⟦<u16 as Elem>⟧.DTYPE }
         ensures { IsTyped ⟦<u16 as Elem>⟧.DTYPE ⟦<u16 as Elem>⟧.number result.now any.now }
+    {
+        match any {
+            AnyTile::UInt16(tile) => tile,
+            _ => unreachable!(),
+        }
+    }
+
+    #[inline]
+    fn into_tile(any: AnyTile) -> Tile<u16>
+        requires { dtype_of any ≡ ⟦<u16 as Elem>⟧.DTYPE }
+        ensures { IsTyped ⟦<u16 as Elem>⟧.DTYPE ⟦<u16 as Elem>⟧.number result any }
     {
         match any {
             AnyTile::UInt16(tile) => tile,
@@ -175,6 +257,17 @@ impl TileElem for u32 {
             _ => unreachable!(),
         }
     }
+
+    #[inline]
+    fn into_tile(any: AnyTile) -> Tile<u32>
+        requires { dtype_of any ≡ ⟦<u32 as Elem>⟧.DTYPE }
+        ensures { IsTyped ⟦<u32 as Elem>⟧.DTYPE ⟦<u32 as Elem>⟧.number result any }
+    {
+        match any {
+            AnyTile::UInt32(tile) => tile,
+            _ => unreachable!(),
+        }
+    }
 }
 
 impl TileElem for u64 {
@@ -189,6 +282,17 @@ impl TileElem for u64 {
     fn tile_of(any: &AnyTile) -> &Tile<u64>
         requires { dtype_of any.now ≡ ⟦<u64 as Elem>⟧.DTYPE }
         ensures { IsTyped ⟦<u64 as Elem>⟧.DTYPE ⟦<u64 as Elem>⟧.number result.now any.now }
+    {
+        match any {
+            AnyTile::UInt64(tile) => tile,
+            _ => unreachable!(),
+        }
+    }
+
+    #[inline]
+    fn into_tile(any: AnyTile) -> Tile<u64>
+        requires { dtype_of any ≡ ⟦<u64 as Elem>⟧.DTYPE }
+        ensures { IsTyped ⟦<u64 as Elem>⟧.DTYPE ⟦<u64 as Elem>⟧.number result any }
     {
         match any {
             AnyTile::UInt64(tile) => tile,

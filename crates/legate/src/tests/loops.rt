@@ -4,7 +4,7 @@ use crate::tests::{checked, ends_with, plain, try_row};
 use crate::walk::run_lines;
 use lg_grammar::read_script;
 use lg_outside::MemorySink;
-use lg_session::{Session, first_unbuilt};
+use lg_session::{Room, Session, first_unbuilt};
 use std::process::Abort;
 use std::str;
 use std::test::Fail;
@@ -260,7 +260,7 @@ fn pieces(rt: HostRuntime) -> Result<(), Fail> {
         let mut count = 0;
         let mut out = MemorySink::new(alloc, 128, Vec::new(alloc))?;
         let ended = run_lines(
-            alloc,
+            Room::new(alloc),
             script.lines.as_slice(),
             &mut session,
             &mut count,

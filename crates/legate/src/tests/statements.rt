@@ -2,7 +2,7 @@
 //! the number.
 use lg_grammar::read_script;
 use lg_meaning::FaultKind;
-use lg_session::{Session, StopEnd, is_built};
+use lg_session::{Room, Session, StopEnd, is_built};
 use lg_tree::Script;
 use std::alloc::Global;
 use std::process::Abort;
@@ -22,7 +22,7 @@ fn performed(
     for line in script.lines.as_slice() {
         assert!(rt; !session.spent());
         assert!(rt; is_built(&line.statement));
-        match session.step(alloc, line) {
+        match session.step(Room::new(alloc), line) {
             Ok(printed) => text.extend_from_slice(&printed)?,
             Err(stop) => {
                 assert!(rt; session.spent() && stop.log.is_empty());

@@ -5,6 +5,7 @@ use crate::{Operand, Weak, as_type};
 use lg_elem::DType;
 use lg_meaning::FaultKind;
 use lg_store::Right;
+use lg_tile::Room;
 use std::test::Fail;
 
 #[test]
@@ -14,9 +15,9 @@ fn other_types(rt: HostRuntime) -> Result<(), Fail> {
     let truths = row(alloc, &[true, false])?;
     let fault = Some(FaultKind::Divisor);
     for k in 0..3 {
-        let made = as_type(alloc, pieces(k), &array(&a), DType::Int8);
+        let made = as_type(Room::new(alloc), pieces(k), &array(&a), DType::Int8);
         holds(&rt, made, &[3], Right::Writable, &[127_i8, 0, 44], None);
-        let made = as_type(alloc, pieces(k), &faulty(&a, fault), DType::Bool);
+        let made = as_type(Room::new(alloc), pieces(k), &faulty(&a, fault), DType::Bool);
         holds(
             &rt,
             made,
@@ -25,16 +26,16 @@ fn other_types(rt: HostRuntime) -> Result<(), Fail> {
             &[true, false, true],
             fault,
         );
-        let made = as_type(alloc, pieces(k), &array(&truths), DType::UInt64);
+        let made = as_type(Room::new(alloc), pieces(k), &array(&truths), DType::UInt64);
         holds(&rt, made, &[2], Right::Writable, &[1_u64, 0], None);
     }
     let low = Operand::Weak(Weak::Integer(-1));
-    let made = as_type(alloc, 4, &low, DType::UInt16);
+    let made = as_type(Room::new(alloc), 4, &low, DType::UInt16);
     holds(&rt, made, &[], Right::Writable, &[65_535_u16], None);
     let high = Operand::Weak(Weak::Integer(9_223_372_036_854_775_808));
     refuses(
         &rt,
-        as_type(alloc, 4, &high, DType::UInt64),
+        as_type(Room::new(alloc), 4, &high, DType::UInt64),
         FaultKind::Range,
     );
     Ok(())

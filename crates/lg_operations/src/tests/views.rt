@@ -14,7 +14,7 @@ use crate::{Operand, binary};
 use lg_elem::{Binary, Elem};
 use lg_shape::{Shape, Step};
 use lg_store::Right;
-use lg_tile::{AnyTile, Tile, TileElem};
+use lg_tile::{AnyTile, Room, Tile, TileElem};
 use lg_xform::Chain;
 use std::alloc::Global;
 use std::process::Abort;
@@ -121,7 +121,7 @@ fn multiplies<T: TileElem>(
     let (first, second) = (view_of(picks.0), view_of(picks.1));
     let (a, b) = (view(rt, tile, &first), view(rt, tile, &second));
     for k in 0..3 {
-        let Ok(fresh) = binary(alloc, pieces(k), Binary::Mul, &a, &b) else {
+        let Ok(fresh) = binary(Room::new(alloc), pieces(k), Binary::Mul, &a, &b) else {
             panic!(rt; "a fault");
         };
         assert!(rt; fresh.tile.dtype() == T::DTYPE);

@@ -14,14 +14,14 @@ use crate::evaluation::parts::evaluate_extents;
 use crate::session::Session;
 use crate::value::Value;
 use lg_operations::EvaluateEnd;
+use lg_tile::Room;
 use lg_tree::Expr;
-use std::alloc::Global;
 
 /// `a.copy()`, `a.flatten()`, `a.astype(type)` and `a.reshape(shape)`.
 #[cycle(walk)]
 #[inline(never)]
 pub(super) fn evaluate_copy(
-    alloc: Global,
+    room: Room<'_>,
     session: &Session,
     value: &Expr,
 ) -> Result<Value, EvaluateEnd>
@@ -33,21 +33,23 @@ pub(super) fn evaluate_copy(
 {
     match value {
         Expr::Copy(a) => {
-            let a = evaluate(alloc, session, a.get())?;
-            copied(alloc, session, a)
+            let a = evaluate(room, session, a.get())?;
+            copied(room, session, a)
         }
         Expr::Flatten(a) => {
-            let a = evaluate(alloc, session, a.get())?;
-            flattened(alloc, session, a)
+            let a = evaluate(room, session, a.get())?;
+            flattened(room, session, a)
         }
         Expr::AsType(a, t) => {
-            let a = evaluate(alloc, session, a.get())?;
-            converted(alloc, session, &a, *t)
+            let a = evaluate(room, session, a.get())?;
+            let result = converted(room, session, &a, *t);
+            a.release(room);
+            result
         }
         Expr::Reshape(a, shape) => {
-            let a = evaluate(alloc, session, a.get())?;
-            let extents = evaluate_extents(alloc, session, shape)?;
-            reshaped(alloc, session, a, &extents)
+            let a = evaluate(room, session, a.get())?;
+            let extents = evaluate_extents(room, session, shape)?;
+            reshaped(room, session, a, &extents)
         }
         _ => unreachable!(),
     }

@@ -16,15 +16,15 @@ use crate::lists::{Members, list_shape};
 use crate::session::Session;
 use crate::value::Value;
 use lg_operations::{EvaluateEnd, Weak};
+use lg_tile::Room;
 use lg_tree::{Expr, ListExpr};
 use sqlite_items::Boxed;
-use std::alloc::Global;
 
 /// `full`, `zeros`, `ones`, `arange` and `array`.
 #[cycle(walk)]
 #[inline(never)]
 pub(super) fn evaluate_creation(
-    alloc: Global,
+    room: Room<'_>,
     session: &Session,
     value: &Expr,
 ) -> Result<Value, EvaluateEnd>
@@ -36,28 +36,28 @@ pub(super) fn evaluate_creation(
 {
     match value {
         Expr::Full(shape, x, dtype) => {
-            let extents = evaluate_extents(alloc, session, shape)?;
-            let x = evaluate(alloc, session, x.get())?;
-            full_array(alloc, session, &extents, &x, *dtype)
+            let extents = evaluate_extents(room, session, shape)?;
+            let x = evaluate(room, session, x.get())?;
+            full_array(room, session, &extents, &x, *dtype)
         }
         Expr::Zeros(shape, dtype) => {
-            let extents = evaluate_extents(alloc, session, shape)?;
-            array_of_zeros(alloc, session, &extents, *dtype)
+            let extents = evaluate_extents(room, session, shape)?;
+            array_of_zeros(room, session, &extents, *dtype)
         }
         Expr::Ones(shape, dtype) => {
-            let extents = evaluate_extents(alloc, session, shape)?;
-            array_of_ones(alloc, session, &extents, *dtype)
+            let extents = evaluate_extents(room, session, shape)?;
+            array_of_ones(room, session, &extents, *dtype)
         }
         Expr::Arange(from, to, dtype) => {
-            let from = evaluate_first_bound(alloc, session, from)?;
-            let to = evaluate(alloc, session, to.get())?;
-            counted_array(alloc, session, &from, &to, *dtype)
+            let from = evaluate_first_bound(room, session, from)?;
+            let to = evaluate(room, session, to.get())?;
+            counted_array(room, session, &from, &to, *dtype)
         }
         Expr::Array(list, dtype) => {
-            let mut members = Members::new(alloc);
-            gather(alloc, session, list, &mut members)?;
-            let shape = list_shape(alloc, list)?;
-            listed_array(alloc, session, &members, shape, *dtype)
+            let mut members = Members::new(room.alloc());
+            gather(room, session, list, &mut members)?;
+            let shape = list_shape(room.alloc(), list)?;
+            listed_array(room, session, &members, shape, *dtype)
         }
         _ => unreachable!(),
     }
@@ -66,7 +66,7 @@ pub(super) fn evaluate_creation(
 // The bound from which `arange` counts, 0 where it is left out.
 #[cycle(walk)]
 fn evaluate_first_bound(
-    alloc: Global,
+    room: Room<'_>,
     session: &Session,
     from: &Option<Boxed<Expr>>,
 ) -> Result<Value, EvaluateEnd>
@@ -76,7 +76,7 @@ fn evaluate_first_bound(
         → IsFirstBound (maybe_tree (option_map tree_of from.now)) state session.now result }
 {
     match from {
-        Some(from) => evaluate(alloc, session, from.get()),
+        Some(from) => evaluate(room, session, from.get()),
         None => Ok(Value::Weak(Weak::Integer(0))),
     }
 }
@@ -85,7 +85,7 @@ fn evaluate_first_bound(
 #[cycle(walk)]
 #[tactic(auto, using(crate::proofs::BuiltLemmas::list_built_at))]
 fn gather(
-    alloc: Global,
+    room: Room<'_>,
     session: &Session,
     list: &ListExpr,
     members: &mut Members,
@@ -98,12 +98,12 @@ fn gather(
 {
     match list {
         ListExpr::Leaf(value) => {
-            let value = evaluate(alloc, session, value.get())?;
+            let value = evaluate(room, session, value.get())?;
             Ok(members.push(session, &value)?)
         }
         ListExpr::List(lists) => {
             for list in lists.as_slice() {
-                gather(alloc, session, list, members)?;
+                gather(room, session, list, members)?;
             }
             Ok(())
         }

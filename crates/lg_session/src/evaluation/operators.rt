@@ -14,14 +14,14 @@ use crate::session::Session;
 use crate::value::Value;
 use lg_elem::{Binary, Unary};
 use lg_operations::EvaluateEnd;
+use lg_tile::Room;
 use lg_tree::Expr;
-use std::alloc::Global;
 
 /// `a + b`, `a < b`, and so for each operator of two operands.
 #[cycle(walk)]
 #[inline(never)]
 pub(super) fn evaluate_operator(
-    alloc: Global,
+    room: Room<'_>,
     session: &Session,
     value: &Expr,
 ) -> Result<Value, EvaluateEnd>
@@ -33,14 +33,20 @@ pub(super) fn evaluate_operator(
 {
     match value {
         Expr::Arith(op, a, b) => {
-            let a = evaluate(alloc, session, a.get())?;
-            let b = evaluate(alloc, session, b.get())?;
-            arithmetic(alloc, session, *op, &a, &b)
+            let a = evaluate(room, session, a.get())?;
+            let b = evaluate(room, session, b.get())?;
+            let result = arithmetic(room, session, *op, &a, &b);
+            a.release(room);
+            b.release(room);
+            result
         }
         Expr::Compare(op, a, b) => {
-            let a = evaluate(alloc, session, a.get())?;
-            let b = evaluate(alloc, session, b.get())?;
-            comparison(alloc, session, *op, &a, &b)
+            let a = evaluate(room, session, a.get())?;
+            let b = evaluate(room, session, b.get())?;
+            let result = comparison(room, session, *op, &a, &b);
+            a.release(room);
+            b.release(room);
+            result
         }
         _ => unreachable!(),
     }
@@ -50,7 +56,7 @@ pub(super) fn evaluate_operator(
 #[cycle(walk)]
 #[inline(never)]
 pub(super) fn evaluate_operation(
-    alloc: Global,
+    room: Room<'_>,
     session: &Session,
     value: &Expr,
 ) -> Result<Value, EvaluateEnd>
@@ -62,32 +68,48 @@ pub(super) fn evaluate_operation(
 {
     match value {
         Expr::Neg(a) => {
-            let a = evaluate(alloc, session, a.get())?;
-            negative(alloc, session, &a)
+            let a = evaluate(room, session, a.get())?;
+            let result = negative(room, session, &a);
+            a.release(room);
+            result
         }
         Expr::Invert(a) => {
-            let a = evaluate(alloc, session, a.get())?;
-            one_operand(alloc, session, Unary::Invert, &a)
+            let a = evaluate(room, session, a.get())?;
+            let result = one_operand(room, session, Unary::Invert, &a);
+            a.release(room);
+            result
         }
         Expr::Abs(a) => {
-            let a = evaluate(alloc, session, a.get())?;
-            one_operand(alloc, session, Unary::Abs, &a)
+            let a = evaluate(room, session, a.get())?;
+            let result = one_operand(room, session, Unary::Abs, &a);
+            a.release(room);
+            result
         }
         Expr::Minimum(a, b) => {
-            let a = evaluate(alloc, session, a.get())?;
-            let b = evaluate(alloc, session, b.get())?;
-            two_operands(alloc, session, Binary::Min, &a, &b)
+            let a = evaluate(room, session, a.get())?;
+            let b = evaluate(room, session, b.get())?;
+            let result = two_operands(room, session, Binary::Min, &a, &b);
+            a.release(room);
+            b.release(room);
+            result
         }
         Expr::Maximum(a, b) => {
-            let a = evaluate(alloc, session, a.get())?;
-            let b = evaluate(alloc, session, b.get())?;
-            two_operands(alloc, session, Binary::Max, &a, &b)
+            let a = evaluate(room, session, a.get())?;
+            let b = evaluate(room, session, b.get())?;
+            let result = two_operands(room, session, Binary::Max, &a, &b);
+            a.release(room);
+            b.release(room);
+            result
         }
         Expr::Where(condition, a, b) => {
-            let condition = evaluate(alloc, session, condition.get())?;
-            let a = evaluate(alloc, session, a.get())?;
-            let b = evaluate(alloc, session, b.get())?;
-            choice(alloc, session, &condition, &a, &b)
+            let condition = evaluate(room, session, condition.get())?;
+            let a = evaluate(room, session, a.get())?;
+            let b = evaluate(room, session, b.get())?;
+            let result = choice(room, session, &condition, &a, &b);
+            condition.release(room);
+            a.release(room);
+            b.release(room);
+            result
         }
         _ => unreachable!(),
     }

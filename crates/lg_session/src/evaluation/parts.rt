@@ -15,14 +15,15 @@ use crate::value::Value;
 use lg_meaning::FaultKind;
 use lg_operations::{EvaluateEnd, Weak};
 use lg_shape::IndexItem;
+use lg_tile::Room;
 use lg_tree::{Expr, Item, ShapeExpr};
-use std::alloc::{AllocError, Global};
+use std::alloc::AllocError;
 
 /// The extents of a shape, in the order in which they are written.
 #[cycle(walk)]
 #[tactic(auto, using(crate::proofs::BuiltLemmas::tree_built_at))]
 pub(super) fn evaluate_extents(
-    alloc: Global,
+    room: Room<'_>,
     session: &Session,
     shape: &ShapeExpr,
 ) -> Result<Vec<Value>, EvaluateEnd>
@@ -30,16 +31,16 @@ pub(super) fn evaluate_extents(
     ensures { (state : State) → StandsFor session.now state
         → AreExtents (shape_of shape.now) state result }
 {
-    let mut extents = Vec::new(alloc);
+    let mut extents = Vec::new(room.alloc());
     match shape {
         ShapeExpr::One(extent) => {
-            let extent = evaluate(alloc, session, extent.get())?;
+            let extent = evaluate(room, session, extent.get())?;
             extents.push(extent)?;
             Ok(extents)
         }
         ShapeExpr::Tuple(parts) => {
             for part in parts.as_slice() {
-                let extent = evaluate(alloc, session, part)?;
+                let extent = evaluate(room, session, part)?;
                 extents.push(extent)?;
             }
             Ok(extents)
@@ -50,7 +51,7 @@ pub(super) fn evaluate_extents(
 /// The axes of a transpose, which may be left out.
 #[cycle(walk)]
 pub(super) fn evaluate_axes(
-    alloc: Global,
+    room: Room<'_>,
     session: &Session,
     axes: &Option<ShapeExpr>,
 ) -> Result<Option<Vec<Value>>, EvaluateEnd>
@@ -59,7 +60,7 @@ pub(super) fn evaluate_axes(
         → AreAxes (maybe_shape (option_map shape_of axes.now)) state result }
 {
     match axes {
-        Some(axes) => Ok(Some(evaluate_extents(alloc, session, axes)?)),
+        Some(axes) => Ok(Some(evaluate_extents(room, session, axes)?)),
         None => Ok(None),
     }
 }
@@ -69,7 +70,7 @@ pub(super) fn evaluate_axes(
 #[cycle(walk)]
 #[tactic(auto, using(crate::proofs::BuiltLemmas::item_built_at))]
 pub(crate) fn evaluate_items(
-    alloc: Global,
+    room: Room<'_>,
     session: &Session,
     items: &[Item],
 ) -> Result<Option<Vec<IndexItem>>, EvaluateEnd>
@@ -77,10 +78,10 @@ pub(crate) fn evaluate_items(
     ensures { (state : State) → StandsFor session.now state
         → AreItems (item_trees (map item_of items.now)) state result }
 {
-    let mut numbers = Vec::new(alloc);
+    let mut numbers = Vec::new(room.alloc());
     let mut typed = true;
     for item in items {
-        let read = evaluate_item(alloc, session, item)?;
+        let read = evaluate_item(room, session, item)?;
         push_item(&mut numbers, &mut typed, read)?;
     }
     if !typed {
@@ -108,7 +109,7 @@ fn push_item(
 // One item of an index: none where an expression in it is no integer.
 #[cycle(walk)]
 fn evaluate_item(
-    alloc: Global,
+    room: Room<'_>,
     session: &Session,
     item: &Item,
 ) -> Result<Option<IndexItem>, EvaluateEnd>
@@ -118,13 +119,13 @@ fn evaluate_item(
 {
     match item {
         Item::At(at) => {
-            let at = evaluate(alloc, session, at)?;
+            let at = evaluate(room, session, at)?;
             Ok(place(&at))
         }
         Item::Slice { start, stop, step } => {
-            let start = evaluate_part(alloc, session, start)?;
-            let stop = evaluate_part(alloc, session, stop)?;
-            let step = evaluate_part(alloc, session, step)?;
+            let start = evaluate_part(room, session, start)?;
+            let stop = evaluate_part(room, session, stop)?;
+            let step = evaluate_part(room, session, step)?;
             Ok(slice(start, stop, step))
         }
         Item::NewAxis => Ok(Some(IndexItem::NewAxis)),
@@ -135,7 +136,7 @@ fn evaluate_item(
 // A part of a slice, which may be left out: none where it is no integer.
 #[cycle(walk)]
 fn evaluate_part(
-    alloc: Global,
+    room: Room<'_>,
     session: &Session,
     part: &Option<Expr>,
 ) -> Result<Option<Option<i128>>, EvaluateEnd>
@@ -145,7 +146,7 @@ fn evaluate_part(
 {
     match part {
         Some(part) => {
-            let part = evaluate(alloc, session, part)?;
+            let part = evaluate(room, session, part)?;
             Ok(given(&part))
         }
         None => Ok(Some(None)),

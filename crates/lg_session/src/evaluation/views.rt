@@ -15,14 +15,14 @@ use crate::value::Value;
 use crate::viewing::{broadcast, indexed, transposed};
 use lg_meaning::FaultKind;
 use lg_operations::EvaluateEnd;
+use lg_tile::Room;
 use lg_tree::Expr;
-use std::alloc::Global;
 
 /// `a[..]`, `transpose(a, axes)`, `a.T` and `broadcast_to(a, shape)`.
 #[cycle(walk)]
 #[inline(never)]
 pub(super) fn evaluate_view(
-    alloc: Global,
+    room: Room<'_>,
     session: &Session,
     value: &Expr,
 ) -> Result<Value, EvaluateEnd>
@@ -34,22 +34,22 @@ pub(super) fn evaluate_view(
 {
     match value {
         Expr::Index(a, items) => {
-            let a = evaluate(alloc, session, a.get())?;
-            let read = evaluate_items(alloc, session, items.as_slice())?;
+            let a = evaluate(room, session, a.get())?;
+            let read = evaluate_items(room, session, items.as_slice())?;
             match read {
-                Some(items) => indexed(alloc, session, &a, &items),
+                Some(items) => indexed(room, session, &a, &items),
                 None => Err(EvaluateEnd::Fault(FaultKind::TypeKind)),
             }
         }
         Expr::Transpose(a, axes) => {
-            let a = evaluate(alloc, session, a.get())?;
-            let axes = evaluate_axes(alloc, session, axes)?;
-            transposed(alloc, session, &a, &axes)
+            let a = evaluate(room, session, a.get())?;
+            let axes = evaluate_axes(room, session, axes)?;
+            transposed(room, session, &a, &axes)
         }
         Expr::BroadcastTo(a, shape) => {
-            let a = evaluate(alloc, session, a.get())?;
-            let extents = evaluate_extents(alloc, session, shape)?;
-            broadcast(alloc, session, &a, &extents)
+            let a = evaluate(room, session, a.get())?;
+            let extents = evaluate_extents(room, session, shape)?;
+            broadcast(room, session, &a, &extents)
         }
         _ => unreachable!(),
     }

@@ -36,40 +36,40 @@ operators::evaluate_operator-returns-in_ok-b-in-Arith-clause-outcome t c = λ st
     let session = c.args.session.now in
     let a = c.in-Arith.a in
     let b = c.in-Arith.b in
-    outcome_of state session (tree_of c.args.value.now) (arith c.in-Arith.op (tree_of a) (tree_of b)) c.arithmetic.result (ap tree_of c.in-Arith.is ∙ tree-Arith c.in-Arith.op a b)
-    (arith_outcome state session c.arithmetic.result (tree_of a) (tree_of b) c.in_ok-a-in-Arith.a c.in_ok-b-in-Arith.b
+    outcome_of state session (tree_of c.args.value.now) (arith c.in-Arith.op (tree_of a) (tree_of b)) c.arithmetic-result.result (ap tree_of c.in-Arith.is ∙ tree-Arith c.in-Arith.op a b)
+    (arith_outcome state session c.arithmetic-result.result (tree_of a) (tree_of b) c.in_ok-a-in-Arith.a c.in_ok-b-in-Arith.b
     (means_of state session _ a _ c.get.ensures (c.in_ok-a-in-Arith.ensures.outcome state stands))
-    (means_of state session _ b _ c.get-in-Arith.ensures (c.in_ok-b-in-Arith.ensures.outcome state stands)) c.in-Arith.op c.arithmetic.ensures.computed)
+    (means_of state session _ b _ c.get-in-Arith.ensures (c.in_ok-b-in-Arith.ensures.outcome state stands)) c.in-Arith.op c.arithmetic-result.ensures.computed)
 
 pub operators::evaluate_operator-returns-in_ok-b-in-Compare-clause-outcome : goal.operators::evaluate_operator-returns-in_ok-b-in-Compare-clause-outcome
 operators::evaluate_operator-returns-in_ok-b-in-Compare-clause-outcome t c = λ state stands.
     let session = c.args.session.now in
     let a = c.in-Compare.a in
     let b = c.in-Compare.b in
-    outcome_of state session (tree_of c.args.value.now) (compare c.in-Compare.op (tree_of a) (tree_of b)) c.comparison.result (ap tree_of c.in-Compare.is ∙ tree-Compare c.in-Compare.op a b)
-    (compare_outcome state session c.comparison.result (tree_of a) (tree_of b) c.in_ok-a-in-Compare.a c.in_ok-b-in-Compare.b
+    outcome_of state session (tree_of c.args.value.now) (compare c.in-Compare.op (tree_of a) (tree_of b)) c.comparison-result.result (ap tree_of c.in-Compare.is ∙ tree-Compare c.in-Compare.op a b)
+    (compare_outcome state session c.comparison-result.result (tree_of a) (tree_of b) c.in_ok-a-in-Compare.a c.in_ok-b-in-Compare.b
     (means_of state session _ a _ c.get-in-Compare.ensures (c.in_ok-a-in-Compare.ensures.outcome state stands))
-    (means_of state session _ b _ c.get-in-Compare-2.ensures (c.in_ok-b-in-Compare.ensures.outcome state stands)) c.in-Compare.op c.comparison.ensures.computed)
+    (means_of state session _ b _ c.get-in-Compare-2.ensures (c.in_ok-b-in-Compare.ensures.outcome state stands)) c.in-Compare.op c.comparison-result.ensures.computed)
 
 pub operators::evaluate_operation-returns-in_ok-b-in-Minimum-clause-outcome : goal.operators::evaluate_operation-returns-in_ok-b-in-Minimum-clause-outcome
 operators::evaluate_operation-returns-in_ok-b-in-Minimum-clause-outcome t c = λ state stands.
     let session = c.args.session.now in
     let a = c.in-Minimum.a in
     let b = c.in-Minimum.b in
-    outcome_of state session (tree_of c.args.value.now) (minimum (tree_of a) (tree_of b)) c.two_operands.result (ap tree_of c.in-Minimum.is ∙ tree-Minimum a b)
-    (minimum_outcome state session c.two_operands.result (tree_of a) (tree_of b) c.in_ok-a-in-Minimum.a c.in_ok-b-in-Minimum.b
+    outcome_of state session (tree_of c.args.value.now) (minimum (tree_of a) (tree_of b)) c.two_operands-result.result (ap tree_of c.in-Minimum.is ∙ tree-Minimum a b)
+    (minimum_outcome state session c.two_operands-result.result (tree_of a) (tree_of b) c.in_ok-a-in-Minimum.a c.in_ok-b-in-Minimum.b
     (means_of state session _ a _ c.get-in-Minimum.ensures (c.in_ok-a-in-Minimum.ensures.outcome state stands))
-    (means_of state session _ b _ c.get-in-Minimum-2.ensures (c.in_ok-b-in-Minimum.ensures.outcome state stands)) c.two_operands.ensures.computed)
+    (means_of state session _ b _ c.get-in-Minimum-2.ensures (c.in_ok-b-in-Minimum.ensures.outcome state stands)) c.two_operands-result.ensures.computed)
 
 pub operators::evaluate_operation-returns-in_ok-b-in-Maximum-clause-outcome : goal.operators::evaluate_operation-returns-in_ok-b-in-Maximum-clause-outcome
 operators::evaluate_operation-returns-in_ok-b-in-Maximum-clause-outcome t c = λ state stands.
     let session = c.args.session.now in
     let a = c.in-Maximum.a in
     let b = c.in-Maximum.b in
-    outcome_of state session (tree_of c.args.value.now) (maximum (tree_of a) (tree_of b)) c.two_operands-in-Maximum.result (ap tree_of c.in-Maximum.is ∙ tree-Maximum a b)
-    (maximum_outcome state session c.two_operands-in-Maximum.result (tree_of a) (tree_of b) c.in_ok-a-in-Maximum.a c.in_ok-b-in-Maximum.b
+    outcome_of state session (tree_of c.args.value.now) (maximum (tree_of a) (tree_of b)) c.two_operands-result-in-Maximum.result (ap tree_of c.in-Maximum.is ∙ tree-Maximum a b)
+    (maximum_outcome state session c.two_operands-result-in-Maximum.result (tree_of a) (tree_of b) c.in_ok-a-in-Maximum.a c.in_ok-b-in-Maximum.b
     (means_of state session _ a _ c.get-in-Maximum.ensures (c.in_ok-a-in-Maximum.ensures.outcome state stands))
-    (means_of state session _ b _ c.get-in-Maximum-2.ensures (c.in_ok-b-in-Maximum.ensures.outcome state stands)) c.two_operands-in-Maximum.ensures.computed)
+    (means_of state session _ b _ c.get-in-Maximum-2.ensures (c.in_ok-b-in-Maximum.ensures.outcome state stands)) c.two_operands-result-in-Maximum.ensures.computed)
 
 pub operators::evaluate_operation-returns-in_ok-b-in-Where-clause-outcome : goal.operators::evaluate_operation-returns-in_ok-b-in-Where-clause-outcome
 operators::evaluate_operation-returns-in_ok-b-in-Where-clause-outcome t c = λ state stands.
@@ -77,11 +77,11 @@ operators::evaluate_operation-returns-in_ok-b-in-Where-clause-outcome t c = λ s
     let k = c.in-Where.condition in
     let a = c.in-Where.a in
     let b = c.in-Where.b in
-    outcome_of state session (tree_of c.args.value.now) (choose (tree_of k) (tree_of a) (tree_of b)) c.choice.result (ap tree_of c.in-Where.is ∙ tree-Where k a b)
-    (choose_outcome state session c.choice.result (tree_of a) (tree_of b) c.in_ok-a-in-Where.a c.in_ok-b-in-Where.b
+    outcome_of state session (tree_of c.args.value.now) (choose (tree_of k) (tree_of a) (tree_of b)) c.choice-result.result (ap tree_of c.in-Where.is ∙ tree-Where k a b)
+    (choose_outcome state session c.choice-result.result (tree_of a) (tree_of b) c.in_ok-a-in-Where.a c.in_ok-b-in-Where.b
     (means_of state session _ a _ c.get-in-Where-2.ensures (c.in_ok-a-in-Where.ensures.outcome state stands))
     (means_of state session _ b _ c.get-in-Where-3.ensures (c.in_ok-b-in-Where.ensures.outcome state stands)) (tree_of k) c.in_ok-condition-in-Where.condition
-    (means_of state session _ k _ c.get-in-Where.ensures (c.in_ok-condition-in-Where.ensures.outcome state stands)) c.choice.ensures.computed)
+    (means_of state session _ k _ c.get-in-Where.ensures (c.in_ok-condition-in-Where.ensures.outcome state stands)) c.choice-result.ensures.computed)
 
 pub creation::evaluate_creation-returns-in_ok-x-in-Full-clause-outcome : goal.creation::evaluate_creation-returns-in_ok-x-in-Full-clause-outcome
 creation::evaluate_creation-returns-in_ok-x-in-Full-clause-outcome t c = λ state stands.
